@@ -1,0 +1,70 @@
+// Refusals: what a caller is told, and the rows that entries are held to.
+
+ghost use mathlib.Core.Path.{_≡_};
+ghost use Rattle.yard.specs.Rows.{entry-refusal};
+
+// The layers that refuse, from the outermost rule to the innermost.
+#[derive(Clone, Copy, PartialEq, Eq, Debug)]
+pub enum Layer {
+    Memory,
+    Line,
+    Frame,
+    Entry,
+    Placing,
+}
+
+// A refusal as it is told: the number of its rule, the layer of that rule, and where in the call it lies.
+#[derive(Clone, Copy, PartialEq, Eq, Debug)]
+pub struct Refusal {
+    pub number: u8,
+    pub layer: Layer,
+    pub place: u8,
+}
+
+// What can be wrong with a field of an edit.
+#[derive(Clone, Copy, PartialEq, Eq, Debug)]
+pub enum EntryRow {
+    // the pillar count is not 1 to 12
+    PillarCount,
+    // the mast's number is over 39
+    MastNumber,
+    // the mast does not stand
+    NotStanding,
+    // a coordinate is beyond 50,000 on either side
+    OffGrid,
+    // the plan has no such pillar
+    NoPillar,
+    // a link from a pillar to itself
+    SelfLink,
+    // a rate, a fixed price or a limit is too large
+    TermRange,
+}
+
+// An entry that is refused: what is wrong, and the offset of the field in the call's frame.
+#[derive(Clone, Copy, PartialEq, Eq, Debug)]
+pub struct EntryFault {
+    pub row: EntryRow,
+    pub place: u8,
+}
+
+impl EntryFault {
+    // The refusal as it is told.
+    pub fn refusal(self) -> Refusal
+        ensures { λ r. ⌜ r ≡ entry-refusal self ⌝ }
+    {
+        let number = match self.row {
+            EntryRow::PillarCount => 5,
+            EntryRow::MastNumber => 6,
+            EntryRow::NotStanding => 7,
+            EntryRow::OffGrid => 8,
+            EntryRow::NoPillar => 9,
+            EntryRow::SelfLink => 10,
+            EntryRow::TermRange => 11,
+        };
+        Refusal {
+            number,
+            layer: Layer::Entry,
+            place: self.place,
+        }
+    }
+}
