@@ -1,0 +1,10 @@
+// Lines and frames: an input cut into lines, a line read as a call, calls and answers written as lines.
+
+pub mod answer;
+pub mod bytes;
+pub mod call;
+pub mod digits;
+pub mod fault;
+pub mod field;
+pub mod lines;
+pub mod write;
