@@ -4,3 +4,7 @@ pub mod Sums
 pub mod Writing
 pub mod Framing
 pub mod Lined
+pub mod Spread
+pub mod Values
+pub mod Spelling
+pub mod Rereading

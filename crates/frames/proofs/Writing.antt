@@ -9,7 +9,7 @@ use Rattle.std.proofs.shelf.Lists.{take-more, drop-more, drop-drop, length-appe
 use Rattle.frames.specs.Digits.{digit-char, hex}
 use Rattle.frames.specs.Writing.{over-head}
 
-hex-push : (bs : List ℕ) (b : ℕ) → hex (bs ++ (b ∷ [])) ≡ hex bs ++ (digit-char (b / 16) ∷ digit-char (b % 16) ∷ [])
+pub hex-push : (bs : List ℕ) (b : ℕ) → hex (bs ++ (b ∷ [])) ≡ hex bs ++ (digit-char (b / 16) ∷ digit-char (b % 16) ∷ [])
 hex-push [] b = refl
 hex-push (a ∷ bs) b = ap (λ r. digit-char (a / 16) ∷ digit-char (a % 16) ∷ r) (hex-push bs b)
 

@@ -5,3 +5,5 @@ pub mod Fields
 pub mod Held
 pub mod Frames
 pub mod Writing
+pub mod Reading
+pub mod Spelling

@@ -3,8 +3,10 @@
 pub mod answer;
 pub mod bytes;
 pub mod call;
+mod decode;
 pub mod digits;
 pub mod fault;
 pub mod field;
 pub mod lines;
+pub mod read;
 pub mod write;
