@@ -31,7 +31,7 @@ use Rattle.frames.specs.declared.fault.FrameFault.the-variants.{Line, Sum, Kin
 use Rattle.frames.specs.Digits.{digit-of, hex}
 use Rattle.frames.specs.Fields.{spell-field, spelled}
 use Rattle.frames.specs.Frames.{total-of, check-byte, framed, kind-of, fields-of, call-bytes, call-frame, call-line}
-use Rattle.frames.specs.Reading.{BadLength, LineRefused, FrameRefused, Spells, FieldFits, Fits, FrameReads, Reads, OneReading, Rereads}
+use Rattle.frames.specs.Reading.{BadLength, LineRefused, FrameRefused, Spells, FieldFits, Fits, FrameReads, Reads, LineRead}
 use Rattle.frames.proofs.Values.{hex-same, hex-digits}
 use Rattle.frames.proofs.Writing.{length-hex}
 use Rattle.frames.proofs.Framing.{length-framed}
@@ -272,11 +272,11 @@ call-taken line c Kind h k =
     k .3 c (ap (λ l. getD l 0 0) (sym known)) (ap length (sym known))
 
 -- a line has one reading
-pub reads-once : (line : List ℕ) (r : Result Call FrameFault) → Reads line r → OneReading line r
+pub reads-once : (line : List ℕ) (r : Result Call FrameFault) → Reads line r → (s : Result Call FrameFault) → Reads line s → r ≡ s
 reads-once line (Ok c) h (Ok d) k = ap Ok (same-line c d (h .1) (k .1) (h .0 ∙ sym (k .0)))
 reads-once line (Ok c) h (Err f) k = absurd (call-taken line c f h k)
 reads-once line (Err f) h (Ok c) k = absurd (call-taken line c f k h)
 reads-once line (Err f) h (Err g) k = ap Err (refused-once line f g h k)
 
-pub rereads-from : (line : List ℕ) (r : Result Call FrameFault) → Reads line r → Rereads line r
-rereads-from line r h c k e = reads-once line r h (Ok c) (sym e, k)
+pub line-read : (line : List ℕ) (r : Result Call FrameFault) → Reads line r → LineRead line r
+line-read line r h = record { reads = h; once = reads-once line r h; rereads = λ c k e. reads-once line r h (Ok c) (sym e, k) }

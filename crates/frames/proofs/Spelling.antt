@@ -1,7 +1,7 @@
 -- A line read byte by byte, and a frame taken apart.
 use mathlib.Core.Path.{_≡_, refl, sym, ap, subst, _∙_}
 use mathlib.Core.Bool.{true}
-use mathlib.Core.Logic.{inl, inr, ⊎-elim}
+use mathlib.Core.Logic.{⊎-elim}
 use mathlib.Core.List.{List, [], _∷_, _++_}
 use Prim.Native.Nat.{ℕ, zero, suc, _+_, _*_, _-_, _/_, _%_, _<_, _≤_}
 use native.Mathlib.Omega.{arith}
@@ -10,7 +10,7 @@ use Rattle.std.specs.Options.{isSome}
 use Rattle.std.specs.shelf.Lists.{All}
 use Rattle.std.specs.declared.result.Result.the-variants.{Ok, Err}
 use Rattle.std.proofs.shelf.Lists.{take-more, take-all, append-assoc, length-take, length-append, getD-take}
-use Rattle.std.proofs.shelf.Elements.{all-push, all-getD}
+use Rattle.std.proofs.shelf.Elements.{all-push}
 use Rattle.std.proofs.shelf.Tests.{cases-lt}
 use Rattle.frames.specs.declared.fault.LineFault.{LineFault}
 use Rattle.frames.specs.declared.fault.LineFault.the-variants.{Length, NoDigit}
@@ -92,16 +92,3 @@ well-long line some even few = ⊎-elim some (⊎-elim even (λ h. omega arith))
 pub no-byte : (line bytes : List ℕ) (i : ℕ) → SoFar line i bytes → 2 * i + 1 < length line → (BadLength line → ⊥) → (f : LineFault) → ByteAt line (2 * i) (Err f) → LineRefused line f
 no-byte line bytes i inv room good (NoDigit k) at = stopped line bytes i inv room k good at
 no-byte line bytes i inv room good (Length n) at = absurd at
-
--- a line spells 1 to 32 bytes
-pub frame-sized : (line bytes : List ℕ) → Spells line bytes → (0 < length bytes) × (length bytes ≤ 32)
-frame-sized line bytes s = (some, few)
-  where
-    twice : length line ≡ 2 * length bytes
-    twice = ap length (sym (s .digits)) ∙ length-hex bytes
-
-    some : 0 < length bytes
-    some = ⊎-elim (λ h. h) (λ h. absurd (s .good-length (inl (omega (arith, twice))))) (cases-lt 0 (length bytes))
-
-    few : length bytes ≤ 32
-    few = ⊎-elim (λ h. absurd (s .good-length (inr (inr (omega (arith, twice)))))) (λ h. h) (cases-lt 32 (length bytes))

@@ -79,10 +79,8 @@ FrameReads bytes (Err (Line f)) = ⊥
 FrameReads bytes (Err (Sum n)) = (total-of bytes % 256 ≡ 0 → ⊥) × (n + 1 ≡ length bytes)
 FrameReads bytes (Err Kind) = (total-of bytes % 256 ≡ 0) × Unknown bytes
 
--- every call that there is comes back from its line
-abbrev pub Rereads : List ℕ → Result Call FrameFault → Type 0
-Rereads line r = (c : Call) → Fits c → line ≡ call-line c → r ≡ Ok c
-
--- a line has no other reading
-abbrev pub OneReading : List ℕ → Result Call FrameFault → Type 0
-OneReading line r = (s : Result Call FrameFault) → Reads line s → r ≡ s
+-- a line read: it has no other reading, and every call that there is comes back from its line
+pub record LineRead (line : List ℕ) (r : Result Call FrameFault) : Type 0 where
+  pub reads : Reads line r
+  pub once : (s : Result Call FrameFault) → Reads line s → r ≡ s
+  pub rereads : (c : Call) → Fits c → line ≡ call-line c → r ≡ Ok c

@@ -1,8 +1,7 @@
 // The digits of a line: 0 to 9 and A to F, two to a byte.
 
 ghost use mathlib.Core.Path.{_≡_};
-ghost use Prim.Native.Nat.{_<_};
-ghost use Rattle.frames.specs.Digits.{digit-of, digit-char};
+ghost use Rattle.frames.specs.Digits.{digit-of};
 
 // The value of a digit.
 pub fn digit(c: char) -> Option<u8>
@@ -12,17 +11,5 @@ pub fn digit(c: char) -> Option<u8>
         '0'..='9' => Some(c as u8 - b'0'),
         'A'..='F' => Some(c as u8 - b'A' + 10),
         _ => None,
-    }
-}
-
-// The digit of a value.
-pub(crate) fn letter(value: u8) -> u8
-    requires { ⌜ value < 16 ⌝ }
-    ensures { λ r. ⌜ r ≡ digit-char value ⌝ }
-{
-    if value < 10 {
-        b'0' + value
-    } else {
-        b'A' + (value - 10)
     }
 }

@@ -36,18 +36,9 @@ impl LineFault {
     pub fn refusal(self) -> Refusal
         ensures { λ r. ⌜ r ≡ line-refusal self ⌝ }
     {
-        let layer = Layer::Line;
         match self {
-            LineFault::Length(place) => Refusal {
-                number: 1,
-                layer,
-                place,
-            },
-            LineFault::NoDigit(place) => Refusal {
-                number: 2,
-                layer,
-                place,
-            },
+            LineFault::Length(place) => Layer::Line.refusal(1, place),
+            LineFault::NoDigit(place) => Layer::Line.refusal(2, place),
         }
     }
 }
@@ -57,19 +48,10 @@ impl FrameFault {
     pub fn refusal(self) -> Refusal
         ensures { λ r. ⌜ r ≡ frame-refusal self ⌝ }
     {
-        let layer = Layer::Frame;
         match self {
             FrameFault::Line(fault) => fault.refusal(),
-            FrameFault::Sum(place) => Refusal {
-                number: 3,
-                layer,
-                place,
-            },
-            FrameFault::Kind => Refusal {
-                number: 4,
-                layer,
-                place: 0,
-            },
+            FrameFault::Sum(place) => Layer::Frame.refusal(3, place),
+            FrameFault::Kind => Layer::Frame.refusal(4, 0),
         }
     }
 }

@@ -1,20 +1,21 @@
 // A line read as a call.
 
 ghost use mathlib.Core.Path.{_≡_};
-ghost use Prim.Native.Nat.{_+_, _<_, _≤_};
+ghost use Prim.Native.Nat.{_+_, _%_, _<_, _≤_};
 ghost use lib.ListN.{length};
 ghost use Rattle.std.specs.Results.{Cases};
 ghost use Rattle.frames.specs.Held.{held};
+ghost use Rattle.frames.specs.Frames.{total-of};
 ghost use Rattle.frames.specs.Spelling.{DigitAt, ByteAt};
-ghost use Rattle.frames.specs.Reading.{LineRefused, Spells, FrameReads, Reads, OneReading, Rereads};
+ghost use Rattle.frames.specs.Reading.{LineRefused, Spells, FrameReads, LineRead};
 use crate::bytes::FrameBytes;
+use crate::bytes::fill::byte_sum;
 use crate::call::Call;
 use crate::decode::decode;
 use crate::digits::digit;
 use crate::fault::FrameFault;
 use crate::fault::FrameFromLine;
 use crate::fault::LineFault;
-use crate::write::byte_sum;
 
 fn digit_at(line: &[u8], at: usize) -> Result<u8, LineFault>
     requires { ⌜ at < length (now line) ⌝ ∗ ⌜ length (now line) ≤ 64 ⌝ }
@@ -54,14 +55,11 @@ fn bytes_of(line: &[u8]) -> Result<FrameBytes, LineFault>
     Ok(bytes)
 }
 
-// The call that a frame makes.
+// The call of a frame whose bytes add to 0.
 fn frame_call(frame: &[u8]) -> Result<Call, FrameFault>
-    requires { ⌜ 0 < length (now frame) ⌝ ∗ ⌜ length (now frame) ≤ 32 ⌝ }
+    requires { ⌜ total-of (now frame) % 256 ≡ 0 ⌝ }
     ensures { λ r. ⌜ FrameReads (now (frame .entry)) r ⌝ }
 {
-    if byte_sum(frame) != 0 {
-        return Err(FrameFault::Sum(frame.len() as u8 - 1));
-    }
     let [kind, .., _] = frame else {
         return Err(FrameFault::Kind);
     };
@@ -73,10 +71,12 @@ fn frame_call(frame: &[u8]) -> Result<Call, FrameFault>
 
 // The call that a line makes, or why it makes none: the first rule that it breaks.
 pub fn read_call(line: &[u8]) -> Result<Call, FrameFault>
-    ensures reads { λ r. ⌜ Reads (now (line .entry)) r ⌝ }
-    ensures once { λ r. ⌜ OneReading (now (line .entry)) r ⌝ }
-    ensures rereads { λ r. ⌜ Rereads (now (line .entry)) r ⌝ }
+    ensures { λ r. ⌜ LineRead (now (line .entry)) r ⌝ }
 {
     let bytes = bytes_of(line)?;
-    frame_call(bytes.as_slice())
+    let frame = bytes.as_slice();
+    if byte_sum(frame) != 0 {
+        return Err(FrameFault::Sum(frame.len() as u8 - 1));
+    }
+    frame_call(frame)
 }

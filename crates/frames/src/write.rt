@@ -6,17 +6,17 @@ ghost use Prim.Native.Nat.{ℕ, _+_, _*_, _%_, _<_, _≤_};
 ghost use lib.ListN.{length};
 ghost use Rattle.std.specs.Results.{Cases};
 ghost use Rattle.frames.specs.Held.{held};
-ghost use Rattle.frames.specs.Digits.{hex};
+ghost use Rattle.frames.specs.Digits.{digit-char, hex};
 ghost use Rattle.frames.specs.Fields.{spelled};
-ghost use Rattle.frames.specs.Frames.{total-of, framed, call-bytes, answer-bytes, line-text, run-fields, term-fields, told-fields, edit-bytes};
+ghost use Rattle.frames.specs.Frames.{framed, call-bytes, answer-bytes, line-text, run-fields, term-fields, told-fields, edit-bytes};
 ghost use Rattle.frames.specs.declared.field.Field.the-variants.{Byte as byteField, Word as wordField};
 ghost use Rattle.frames.specs.Writing.{Wrote, over-head};
 use crate::answer::Answer;
 use crate::answer::Told;
 use crate::bytes::FrameBytes;
 use crate::bytes::fill::Full;
+use crate::bytes::fill::byte_sum;
 use crate::call::Call;
-use crate::digits::letter;
 use crate::field::Field;
 use crate::field::Field::Byte;
 use crate::field::Field::Half;
@@ -25,17 +25,6 @@ use crate::field::Field::Word;
 use yard::edit::Edit;
 use yard::edit::EntryTerms;
 use yard::force::Run;
-
-// What the bytes add to, modulo 256.
-pub(crate) fn byte_sum(bytes: &[u8]) -> u8
-    ensures { λ r. ⌜ r ≡ total-of (now (bytes .entry)) % 256 ⌝ }
-{
-    let mut total = 0u8;
-    for byte in bytes {
-        total = total.wrapping_add(*byte);
-    }
-    total
-}
 
 // A frame of a kind, some fields and some further bytes, with its check byte.
 fn frame(kind: u8, fields: &[Field], more: &[u8]) -> Result<FrameBytes, Full>
@@ -50,6 +39,18 @@ fn frame(kind: u8, fields: &[Field], more: &[u8]) -> Result<FrameBytes, Full>
     let check = 0u8.wrapping_sub(byte_sum(bytes.as_slice()));
     bytes.push(check)?;
     Ok(bytes)
+}
+
+// The digit of a value.
+fn letter(value: u8) -> u8
+    requires { ⌜ value < 16 ⌝ }
+    ensures { λ r. ⌜ r ≡ digit-char value ⌝ }
+{
+    if value < 10 {
+        b'0' + value
+    } else {
+        b'A' + (value - 10)
+    }
 }
 
 // The digits of some bytes at the head of `out`, and a line feed.

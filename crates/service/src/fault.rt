@@ -38,11 +38,7 @@ impl ServeFault {
         ensures { λ r. ⌜ r ≡ serve-refusal self ⌝ }
     {
         match self {
-            ServeFault::Memory => Refusal {
-                number: 16,
-                layer: Layer::Memory,
-                place: 0,
-            },
+            ServeFault::Memory => Layer::Memory.refusal(16, 0),
             ServeFault::Frame(fault) => fault.refusal(),
             ServeFault::Entry(fault) => fault.refusal(),
         }

@@ -9,6 +9,7 @@ use Rattle.std.specs.declared.option.Option.{Option}
 use Rattle.std.specs.declared.option.Option.the-variants.{Some, None}
 use Rattle.yard.specs.declared.force.InForce.{InForce}
 use Rattle.yard.specs.declared.force.Mast.{Mast}
+use Rattle.yard.specs.declared.force.Point.{Point}
 use Rattle.yard.specs.declared.force.Terms.{Terms}
 use Rattle.yard.specs.declared.force.Run.{Run}
 use Rattle.yard.specs.declared.force.Run.the-variants.{Feeder, Link}
@@ -31,6 +32,14 @@ mast-at F m = getD (F .masts) m None
 abbrev pub stands : Option Mast → Bool
 stands (Some a) = true
 stands None = false
+
+-- where a mast stands, if its number is one of 0 to 39 and it stands
+abbrev pub foot-of : Option Mast → Option Point
+foot-of (Some a) = Some (a .at)
+foot-of None = None
+
+abbrev pub point-of : InForce → ℕ → Option Point
+point-of F m = cond (leb m 39) (foot-of (mast-at F m)) None
 
 -- the terms from a standing mast to a pillar
 abbrev pub mast-terms : Option Mast → ℕ → Option Terms

@@ -4,6 +4,7 @@ use mathlib.Core.List.{List, [], _∷_}
 use Prim.Native.Nat.{ℕ}
 use Rattle.std.specs.declared.option.Option.{Option}
 use Rattle.std.specs.declared.option.Option.the-variants.{Some, None}
+use Rattle.yard.specs.declared.fault.Layer.{Layer}
 use Rattle.yard.specs.declared.fault.Layer.the-variants.{Entry}
 use Rattle.yard.specs.declared.fault.Refusal.{Refusal}
 use Rattle.yard.specs.declared.fault.EntryRow.{EntryRow}
@@ -20,8 +21,12 @@ row-number NoPillar = 9
 row-number SelfLink = 10
 row-number TermRange = 11
 
+-- a refusal is a number, a layer and a place
+abbrev pub refusal-of : Layer → ℕ → ℕ → Refusal
+refusal-of l n p = record { number = n; layer = l; place = p }
+
 abbrev pub entry-refusal : EntryFault → Refusal
-entry-refusal f = record { number = row-number (f .row); layer = Entry; place = f .place }
+entry-refusal f = refusal-of Entry (row-number (f .row)) (f .place)
 
 -- a row as it is held to a call: whether it applies, what it says, and the field that it speaks of
 pub record Held : Type 0 where

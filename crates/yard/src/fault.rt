@@ -1,7 +1,7 @@
 // Refusals: what a caller is told, and the rows that entries are held to.
 
 ghost use mathlib.Core.Path.{_≡_};
-ghost use Rattle.yard.specs.Rows.{entry-refusal};
+ghost use Rattle.yard.specs.Rows.{refusal-of, entry-refusal};
 
 // The layers that refuse, from the outermost rule to the innermost.
 #[derive(Clone, Copy, PartialEq, Eq, Debug)]
@@ -19,6 +19,19 @@ pub struct Refusal {
     pub number: u8,
     pub layer: Layer,
     pub place: u8,
+}
+
+impl Layer {
+    // A refusal of this layer.
+    pub fn refusal(self, number: u8, place: u8) -> Refusal
+        ensures { λ r. ⌜ r ≡ refusal-of self number place ⌝ }
+    {
+        Refusal {
+            number,
+            layer: self,
+            place,
+        }
+    }
 }
 
 // What can be wrong with a field of an edit.
@@ -47,6 +60,16 @@ pub struct EntryFault {
     pub place: u8,
 }
 
+impl EntryRow {
+    // The fault of breaking this row at a field.
+    pub fn at(self, place: u8) -> EntryFault
+        ensures row { λ r. ⌜ r .row ≡ self ⌝ }
+        ensures place { λ r. ⌜ r .place ≡ place ⌝ }
+    {
+        EntryFault { row: self, place }
+    }
+}
+
 impl EntryFault {
     // The refusal as it is told.
     pub fn refusal(self) -> Refusal
@@ -61,10 +84,6 @@ impl EntryFault {
             EntryRow::SelfLink => 10,
             EntryRow::TermRange => 11,
         };
-        Refusal {
-            number,
-            layer: Layer::Entry,
-            place: self.place,
-        }
+        Layer::Entry.refusal(number, self.place)
     }
 }

@@ -1,8 +1,8 @@
 ghost use mathlib.Core.Path.{_≡_};
-ghost use mathlib.Core.List.{[], _∷_, _++_};
-ghost use Prim.Native.Nat.{_+_, _<_};
-ghost use lib.ListN.{length};
+ghost use mathlib.Core.List.{[], _∷_};
+ghost use Prim.Native.Nat.{_%_};
 ghost use Rattle.frames.specs.Held.{held, Added};
+ghost use Rattle.frames.specs.Frames.{total-of};
 ghost use Rattle.frames.specs.Fields.{spell-field};
 use crate::bytes::FrameBytes;
 use crate::field::Field;
@@ -10,6 +10,17 @@ use crate::field::Field;
 // There is no room for another byte.
 #[derive(Clone, Copy)]
 pub(crate) struct Full;
+
+// What the bytes add to, modulo 256.
+pub(crate) fn byte_sum(bytes: &[u8]) -> u8
+    ensures { λ r. ⌜ r ≡ total-of (now (bytes .entry)) % 256 ⌝ }
+{
+    let mut total = 0u8;
+    for byte in bytes {
+        total = total.wrapping_add(*byte);
+    }
+    total
+}
 
 impl FrameBytes {
     pub(crate) fn new() -> FrameBytes

@@ -3,7 +3,7 @@
 ghost use mathlib.Core.Path.{_≡_};
 ghost use Prim.Native.Nat.{_<_};
 ghost use lib.ListN.{set};
-ghost use Rattle.yard.specs.Force.{opened-at, terms-of};
+ghost use Rattle.yard.specs.Force.{opened-at, point-of, terms-of};
 ghost use Rattle.yard.specs.Edits.{answered, after-edit, kept-terms};
 ghost use Rattle.yard.specs.Offers.{Offered};
 ghost use Rattle.yard.specs.declared.edit.Edit.the-variants.{Open as opening, Raise as raising, Strike as striking, Feeder as feeding, Link as linking};
@@ -24,21 +24,17 @@ use crate::plan::Plan;
 fn offered(terms: EntryTerms) -> Result<Terms, EntryFault>
     ensures { λ r. ⌜ Offered terms r ⌝ }
 {
-    let row = EntryRow::TermRange;
     if terms.rate > 10_000 {
-        return Err(EntryFault { row, place: 3 });
+        return Err(EntryRow::TermRange.at(3));
     }
     if terms.fixed > 1_000_000_000 {
-        return Err(EntryFault { row, place: 5 });
+        return Err(EntryRow::TermRange.at(5));
     }
-    let limit = if terms.limit == NO_LIMIT {
-        None
-    } else {
-        Some(terms.limit)
+    let limit = match terms.limit {
+        NO_LIMIT => None,
+        0..=200_000 => Some(terms.limit),
+        _ => return Err(EntryRow::TermRange.at(9)),
     };
-    if terms.limit != NO_LIMIT && terms.limit > 200_000 {
-        return Err(EntryFault { row, place: 9 });
-    }
     Ok(Terms {
         rate: terms.rate,
         fixed: terms.fixed,
@@ -76,11 +72,24 @@ impl Plan {
         }
     }
 
-    // What is in force.
-    pub fn in_force(&self) -> &InForce
-        ensures { λ r. ⌜ now r ≡ now (self .entry) .force ⌝ }
+    // How many pillars the plan has.
+    pub fn pillars(&self) -> u8
+        ensures { λ r. ⌜ r ≡ now (self .entry) .force .count ⌝ }
     {
-        &self.force
+        self.force.count
+    }
+
+    // Where a mast stands, if it does.
+    pub fn mast(&self, number: u8) -> Option<Point>
+        ensures { λ r. ⌜ r ≡ point-of (now (self .entry) .force) number ⌝ }
+    {
+        if number > 39 {
+            return None;
+        }
+        match self.force.masts[number as usize] {
+            Some(standing) => Some(standing.at),
+            None => None,
+        }
     }
 
     // The terms of a run, where the plan has it.
@@ -117,10 +126,7 @@ impl Plan {
         ensures after { λ _. ⌜ now (self .exit) .force ≡ after-edit (now (self .entry) .force) (opening count) ⌝ }
     {
         if count == 0 || count > 12 {
-            return Err(EntryFault {
-                row: EntryRow::PillarCount,
-                place: 1,
-            });
+            return Err(EntryRow::PillarCount.at(1));
         }
         self.force = InForce::opened(count);
         Ok(())
@@ -132,22 +138,13 @@ impl Plan {
         ensures after { λ _. ⌜ now (self .exit) .force ≡ after-edit (now (self .entry) .force) (raising mast x y) ⌝ }
     {
         if mast > 39 {
-            return Err(EntryFault {
-                row: EntryRow::MastNumber,
-                place: 1,
-            });
+            return Err(EntryRow::MastNumber.at(1));
         }
         if x.unsigned_abs() > 50_000 {
-            return Err(EntryFault {
-                row: EntryRow::OffGrid,
-                place: 2,
-            });
+            return Err(EntryRow::OffGrid.at(2));
         }
         if y.unsigned_abs() > 50_000 {
-            return Err(EntryFault {
-                row: EntryRow::OffGrid,
-                place: 6,
-            });
+            return Err(EntryRow::OffGrid.at(6));
         }
         let feeders = kept(self.force.masts[mast as usize]);
         let at = Point { x, y };
@@ -161,16 +158,10 @@ impl Plan {
         ensures after { λ _. ⌜ now (self .exit) .force ≡ after-edit (now (self .entry) .force) (striking mast) ⌝ }
     {
         if mast > 39 {
-            return Err(EntryFault {
-                row: EntryRow::MastNumber,
-                place: 1,
-            });
+            return Err(EntryRow::MastNumber.at(1));
         }
         let Some(_) = self.force.masts[mast as usize] else {
-            return Err(EntryFault {
-                row: EntryRow::NotStanding,
-                place: 1,
-            });
+            return Err(EntryRow::NotStanding.at(1));
         };
         self.force.masts[mast as usize] = None;
         Ok(())
@@ -182,23 +173,14 @@ impl Plan {
         ensures after { λ _. ⌜ now (self .exit) .force ≡ after-edit (now (self .entry) .force) (feeding mast pillar terms) ⌝ }
     {
         if mast > 39 {
-            return Err(EntryFault {
-                row: EntryRow::MastNumber,
-                place: 1,
-            });
+            return Err(EntryRow::MastNumber.at(1));
         }
         let found = self.force.masts[mast as usize];
         let Some(standing) = found else {
-            return Err(EntryFault {
-                row: EntryRow::NotStanding,
-                place: 1,
-            });
+            return Err(EntryRow::NotStanding.at(1));
         };
         if pillar >= self.force.count {
-            return Err(EntryFault {
-                row: EntryRow::NoPillar,
-                place: 2,
-            });
+            return Err(EntryRow::NoPillar.at(2));
         }
         let terms = offered(terms)?;
         self.force.masts[mast as usize] = Some(refed(standing, pillar, terms));
@@ -211,22 +193,13 @@ impl Plan {
         ensures after { λ _. ⌜ now (self .exit) .force ≡ after-edit (now (self .entry) .force) (linking one other terms) ⌝ }
     {
         if one >= self.force.count {
-            return Err(EntryFault {
-                row: EntryRow::NoPillar,
-                place: 1,
-            });
+            return Err(EntryRow::NoPillar.at(1));
         }
         if other >= self.force.count {
-            return Err(EntryFault {
-                row: EntryRow::NoPillar,
-                place: 2,
-            });
+            return Err(EntryRow::NoPillar.at(2));
         }
         if one == other {
-            return Err(EntryFault {
-                row: EntryRow::SelfLink,
-                place: 2,
-            });
+            return Err(EntryRow::SelfLink.at(2));
         }
         let terms = offered(terms)?;
         self.force

@@ -3,7 +3,7 @@ use Prim.Native.Nat.{_%_}
 use Rattle.frames.specs.Frames.{total-of}
 use Rattle.std.proofs.shelf.Lists.{take-all}
 use Rattle.frames.proofs.Sums.{sum-more}
-use Rattle.frames.proofs.write.byte_sum.Needs as need
+use Rattle.frames.proofs.bytes.fill.byte_sum.Needs as need
 
 pub loop-byte-again : need.loop-byte-again
 loop-byte-again c =
