@@ -4,14 +4,14 @@
 pub const NO_LIMIT: u32 = 0xFFFF_FFFF;
 
 // Terms as an edit states them: the limit in steps, or `NO_LIMIT`.
-#[derive(Clone, Copy, PartialEq, Eq, Debug)]
+#[derive(Clone, Copy)]
 pub struct EntryTerms {
     pub rate: u16,
     pub fixed: u32,
     pub limit: u32,
 }
 
-#[derive(Clone, Copy, PartialEq, Eq, Debug)]
+#[derive(Clone, Copy)]
 pub enum Edit {
     // Clears the plan and sets the pillar count.
     Open {

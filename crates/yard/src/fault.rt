@@ -4,7 +4,7 @@ ghost use mathlib.Core.Path.{_≡_};
 ghost use Rattle.yard.specs.Rows.{refusal-of, entry-refusal};
 
 // The layers that refuse, from the outermost rule to the innermost.
-#[derive(Clone, Copy, PartialEq, Eq, Debug)]
+#[derive(Clone, Copy)]
 pub enum Layer {
     Memory,
     Line,
@@ -14,7 +14,7 @@ pub enum Layer {
 }
 
 // A refusal as it is told: the number of its rule, the layer of that rule, and where in the call it lies.
-#[derive(Clone, Copy, PartialEq, Eq, Debug)]
+#[derive(Clone, Copy)]
 pub struct Refusal {
     pub number: u8,
     pub layer: Layer,
@@ -35,7 +35,7 @@ impl Layer {
 }
 
 // What can be wrong with a field of an edit.
-#[derive(Clone, Copy, PartialEq, Eq, Debug)]
+#[derive(Clone, Copy)]
 pub enum EntryRow {
     // the pillar count is not 1 to 12
     PillarCount,
@@ -54,7 +54,7 @@ pub enum EntryRow {
 }
 
 // An entry that is refused: what is wrong, and the offset of the field in the call's frame.
-#[derive(Clone, Copy, PartialEq, Eq, Debug)]
+#[derive(Clone, Copy)]
 pub struct EntryFault {
     pub row: EntryRow,
     pub place: u8,

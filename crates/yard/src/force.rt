@@ -9,14 +9,14 @@ pub const PILLARS: usize = 12;
 pub const MASTS: usize = 40;
 
 // Where a mast stands, in whole steps.
-#[derive(Clone, Copy, PartialEq, Eq, Debug)]
+#[derive(Clone, Copy)]
 pub struct Point {
     pub x: i32,
     pub y: i32,
 }
 
 // The terms of a run: cents a step, cents at once, and the greatest length in steps if there is one.
-#[derive(Clone, Copy, PartialEq, Eq, Debug)]
+#[derive(Clone, Copy)]
 pub struct Terms {
     pub rate: u16,
     pub fixed: u32,
@@ -38,7 +38,7 @@ pub struct Mast {
 }
 
 // A run: from a mast to a pillar, or between two pillars.
-#[derive(Clone, Copy, PartialEq, Eq, Debug)]
+#[derive(Clone, Copy)]
 pub enum Run {
     Feeder { mast: u8, pillar: u8 },
     Link { one: u8, other: u8 },
