@@ -12,13 +12,16 @@ use std::alloc::AllocError;
 use std::alloc::Global;
 use yard::plan::Plan;
 
+// The longest input that is served, in bytes.
+pub const MOST_SERVED: usize = 32_768;
+
 // Every line of the input served in order on one new plan; an input over 32,768 bytes gets only a refusal.
 pub fn serve_input(heap: Global, input: &[u8]) -> Result<Vec<u8>, AllocError>
     ensures gives { λ r. ⌜ made r (λ v. Gives (now (input .entry)) (vec-items v)) ⌝ }
     ensures once { λ r. ⌜ made r (λ v. (other : List ℕ) → Gives (now (input .entry)) other → vec-items v ≡ other) ⌝ }
 {
     let mut output = Vec::new(heap);
-    if input.len() > 32_768 {
+    if input.len() > MOST_SERVED {
         output.extend_from_slice(b"8210006E\n")?;
         return Ok(output);
     }

@@ -8,7 +8,7 @@ use Rattle.frames.proofs.read.bytes_of.Needs as need
 pub returns-in-Break-byte : need.returns-in-Break-byte
 returns-in-Break-byte c =
     let p = err-from-errBy (c .from-residual .result) (c .from-residual .ensures .1) in
-    let good = well-long (c .args .line .now) (search needs) (search needs) (c .if-n-gt64 .left) in
+    let good = well-long (c .args .line .now) (search needs) (search needs) (search needs) in
     rw (p .1, p .2) (no-byte (c .args .line .now) (held (c .loop-i .bytes)) (c .loop-i .i) (c .loop-i .inv) (search needs) good (c .in-Break-byte .field-0 .0) (c .in-Break-byte .ensures tt))
 
 pub unreachable-requires : need.unreachable-requires
@@ -22,5 +22,5 @@ loop-i-again c =
 
 pub returns : need.returns
 returns c =
-    let good = well-long (c .args .line .now) (search needs) (search needs) (c .if-n-gt64 .left) in
+    let good = well-long (c .args .line .now) (search needs) (search needs) (search needs) in
     all-spelled (c .args .line .now) (held (c .loop-i .bytes)) (c .loop-i .i) (c .loop-i .inv) good (search needs)

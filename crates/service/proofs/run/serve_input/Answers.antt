@@ -20,8 +20,8 @@ loop-line-again c =
     one-more (opened-at 1) (lines-of (c .args .input .now)) (vec-items (c .loop-line .output)) (c .loop-line .plan .force) (c .loop-line .rest .now) (c .loop-line .inv)
     (c .in-Some .line .now) (c .in-Some .after .now) r (c .serve .last .plan .force) _ (c .in-Some .ensures tt .lines) (served .2) grown
 
-pub returns-then-input-gt32768 : need.returns-then-input-gt32768
-returns-then-input-gt32768 c =
+pub returns-then-input-gt-MOST-SERVED : need.returns-then-input-gt-MOST-SERVED
+returns-then-input-gt-MOST-SERVED c =
     let input = c .args .input .now in
     let out = vec-items (c .extend-from-slice .last .self) in
     let gives : Gives input out = search needs in
