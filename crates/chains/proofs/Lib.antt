@@ -1,0 +1,11 @@
+pub mod Steps-laws
+pub mod Tied-laws
+pub mod State
+pub mod Marks-table
+pub mod Offer
+pub mod Nearest
+pub mod Open
+pub mod Tables
+pub mod Reading
+pub mod Forward
+pub mod Reversed

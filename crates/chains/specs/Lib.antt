@@ -1,0 +1,5 @@
+pub mod Laws
+pub mod Measures
+pub mod Chains
+pub mod Marked
+pub mod Along
