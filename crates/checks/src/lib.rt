@@ -5,4 +5,6 @@ mod frame_tests;
 #[cfg(test)]
 mod plan_tests;
 #[cfg(test)]
+mod serve_tests;
+#[cfg(test)]
 mod site_tests;
