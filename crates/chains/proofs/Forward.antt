@@ -1,10 +1,10 @@
 -- A chain from its last pillar back, and from its first one on. Assumes nothing.
 use mathlib.Core.Path.{_≡_, refl, sym, ap, subst, _∙_}
-use mathlib.Core.Bool.{Bool, true}
-use mathlib.Core.List.{List, [], _∷_, _++_, reverse, reverseAux}
-use Prim.Native.Nat.{ℕ, _+_, _<_}
+use mathlib.Core.Bool.{Bool}
+use mathlib.Core.List.{List, [], _∷_, reverse, reverseAux}
+use Prim.Native.Nat.{ℕ, _<_}
 use native.Mathlib.Omega.{arith}
-use lib.ListN.{length, length-reverse}
+use lib.ListN.{length-reverse}
 use Rattle.std.specs.shelf.Lists.{All}
 use Rattle.chains.specs.Chains.{chain-value, Different, Leads, Best-found, Read-out, pillar-at}
 use Rattle.chains.specs.Along.{value-onward, value-along, lastOf, BestTo, Best-written}

@@ -4,7 +4,7 @@ use mathlib.Core.List.{List, [], _∷_, _++_, reverse, reverseAux}
 use mathlib.Core.Logic.{_≢_}
 use Prim.Native.Nat.{ℕ, _+_, _-_, _<_, _≤_}
 use native.Mathlib.Omega.{arith}
-use lib.ListN.{length, getD, set, take, drop, length-take}
+use lib.ListN.{length, set, take, drop}
 use lib.Seq.{take-set-lt}
 use Rattle.std.proofs.shelf.Lists.{take-append-drop, drop-all, drop-set, drop-set-lt, length-take-le}
 use Rattle.chains.specs.Chains.{Chain, Told, Traced}

@@ -1,8 +1,8 @@
 -- What the search keeps from turn to turn, over any lawful measure; no code is named here. Assumes nothing.
-use mathlib.Core.Path.{_≡_, refl, sym, ap, _∙_}
+use mathlib.Core.Path.{_≡_, sym, ap, _∙_}
 use mathlib.Core.Bool.{Bool, true, false, cond}
 use mathlib.Core.List.{List, [], _∷_}
-use mathlib.Core.Logic.{_≢_, _⊎_, inl, inr}
+use mathlib.Core.Logic.{_≢_, inl, inr}
 use Prim.Native.Nat.{ℕ, _+_, _<_, _≤_}
 use native.Mathlib.Omega.{arith}
 use lib.ListN.{length}
@@ -10,7 +10,7 @@ use Rattle.std.specs.shelf.Lists.{All}
 use Rattle.std.proofs.shelf.Elements.{all-weaker}
 use Rattle.std.proofs.shelf.Tests.{cases-eq, cases-bool, both-ways, cond-true, cond-false}
 use Rattle.chains.specs.Laws.{Laws}
-use Rattle.chains.specs.Chains.{chain-value, Chain, Different, Told, Leads, Best-found}
+use Rattle.chains.specs.Chains.{chain-value, Chain, Different, Told, Best-found}
 
 -- The chain that stands for `best v`: its earlier pillars are done, and with those that are not done, `left` of them, they are no more than n.
 pub record Way {M : Type 0} (op : M → M → M) (first : ℕ → M) (run : ℕ → ℕ → M) (n : ℕ) (best : ℕ → M) (before : ℕ → ℕ) (done : ℕ → Bool) (left : ℕ) (v : ℕ) : Type 0 where

@@ -1,11 +1,11 @@
 -- Sums of bytes modulo 256.
-use mathlib.Core.Path.{_≡_, refl, sym, ap, _∙_}
+use mathlib.Core.Path.{_≡_, sym, ap, _∙_}
 use mathlib.Core.List.{List, [], _∷_, _++_}
 use Prim.Native.Nat.{ℕ, _+_, _-_, _%_, _<_, _^_}
 use native.Mathlib.Omega.{arith}
 use lib.ListN.{length, take, getD}
 use Rattle.std.proofs.shelf.Lists.{take-more}
-use Rattle.frames.specs.Frames.{total-of, check-byte, framed}
+use Rattle.frames.specs.Frames.{total-of}
 
 pub total-append : (xs ys : List ℕ) → total-of (xs ++ ys) ≡ total-of xs + total-of ys
 total-append [] ys = omega arith

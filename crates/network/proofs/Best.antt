@@ -1,22 +1,21 @@
 -- Best chains on a line are the highest places, or a pillar that is too low gives a tight chain. No code is named here. Assumes nothing.
-use mathlib.Core.Path.{_≡_, refl, sym, ap, subst, _∙_}
-use mathlib.Core.Bool.{Bool, true, false}
+use mathlib.Core.Path.{_≡_, refl, sym, ap, _∙_}
+use mathlib.Core.Bool.{true}
 use mathlib.Core.List.{List, [], _∷_, reverse}
-use mathlib.Core.Logic.{_⊎_, inl, inr}
+use mathlib.Core.Logic.{inl, inr}
 use Prim.Native.Nat.{ℕ, _+_, _-_, _^_, _≤_, _<_}
 use native.Mathlib.Omega.{arith}
 use Rattle.std.specs.shelf.Lists.{All}
-use Rattle.chains.specs.Measures.{no-steps, add-steps, fewer}
-use Rattle.chains.specs.Laws.{Laws}
+use Rattle.chains.specs.Measures.{add-steps, fewer}
 use Rattle.chains.specs.Chains.{chain-value, Chain, Different, Leads, Best-found}
 use Rattle.chains.specs.Along as Along
-use Rattle.chains.specs.Along.{value-onward, lastOf, BestTo}
+use Rattle.chains.specs.Along.{value-onward, lastOf}
 use Rattle.chains.proofs.Steps-laws.{steps-laws}
 use Rattle.chains.proofs.Forward.{best-to}
 use Rattle.chains.specs.declared.measure.Steps.{Steps}
 use Rattle.chains.specs.declared.measure.Steps.the-variants.{Limited, Unlimited}
-use Rattle.network.specs.Chain.{reaches-onward, reaches-along, AddTo}
-use Rattle.network.specs.Line.{Line, Upto, Sits, Highest, Tight, Start, stepsOf, TooLow}
+use Rattle.network.specs.Chain.{reaches-onward, AddTo}
+use Rattle.network.specs.Line.{Line, Upto, Sits, Highest, Tight, Start, stepsOf}
 use Rattle.network.proofs.Sums.{add-cons, add-parts, limited-under, under-sum, limited-same}
 
 -- what `Upto` says, by the two cases of a reach

@@ -1,21 +1,15 @@
 -- The greatest positions on both axes, and a chain that is too short on one. Assumes nothing.
-use mathlib.Core.Path.{_≡_, refl, sym, ap, subst, _∙_}
-use mathlib.Core.Logic.{_≢_}
+use mathlib.Core.Path.{_≡_, ap, _∙_}
 use mathlib.Core.List.{List}
-use Prim.Native.Nat.{ℕ, _+_, _≤_, _<_, max}
+use Prim.Native.Nat.{ℕ, _≤_, _<_, max}
 use native.Mathlib.Omega.{arith}
 use lib.IntN.{ℤ, pos, natAbs, _-ℤ_}
-use lib.Signed.{_≤ℤ_}
 use lib.ListN.{getD}
 use Rattle.std.specs.declared.result.Result.the-variants.{Ok}
-use Rattle.std.proofs.shelf.Signed.{ints}
 use Rattle.chains.specs.declared.measure.Steps.{Steps}
 use Rattle.chains.specs.declared.measure.Steps.the-variants.{Limited, Unlimited}
-use Rattle.network.specs.declared.axis.Axis.{Axis}
-use Rattle.network.specs.declared.axis.Axis.the-variants.{First, Second}
-use Rattle.network.specs.Layout.{Layout, apart, Within, Meets, InField, Greatest}
-use Rattle.network.specs.Chain.{Short}
-use Rattle.network.specs.Axes.{number-on, MeetsOn, GreatestOn, ShortOn, SolvedOn}
+use Rattle.network.specs.Layout.{Layout, Within, Meets, InField, Greatest}
+use Rattle.network.specs.Axes.{MeetsOn, GreatestOn, SolvedOn}
 use Rattle.network.specs.declared.answer.Positions.{Positions}
 use Rattle.network.specs.Networks.{position-in, Placed}
 

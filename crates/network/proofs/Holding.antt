@@ -1,7 +1,7 @@
 -- The chain that holds a pillar down, as the tables tell it. Assumes nothing.
-use mathlib.Core.Path.{_≡_, refl, sym, ap, subst, _∙_}
-use mathlib.Core.List.{List, [], _∷_, _++_, reverse}
-use Prim.Native.Nat.{ℕ, zero, suc, _+_, _-_, _^_, _≤_, _<_}
+use mathlib.Core.Path.{_≡_, refl, sym, ap, _∙_}
+use mathlib.Core.List.{List, _∷_, _++_, reverse}
+use Prim.Native.Nat.{ℕ, _+_, _-_, _^_, _≤_, _<_}
 use native.Mathlib.Omega.{arith}
 use lib.ListN.{length, getD, drop, replicate, length-reverse}
 use Rattle.std.proofs.shelf.Lists.{drop-replicate}
@@ -10,7 +10,7 @@ use Rattle.chains.specs.Chains.{Read-out, Unread, pillar-at}
 use Rattle.chains.proofs.Reading.{told-once}
 use Rattle.chains.specs.declared.measure.Steps.{Steps}
 use Rattle.chains.specs.declared.measure.Steps.the-variants.{Limited, Unlimited}
-use Rattle.network.specs.Line.{Line, Tight, TooLow, stepsOf}
+use Rattle.network.specs.Line.{Tight, TooLow, stepsOf}
 use Rattle.network.specs.Chain.{Written}
 use Rattle.network.specs.Tables.{reachIn}
 use Rattle.network.specs.Lines.{lineOf, Held-down}

@@ -1,10 +1,9 @@
 -- One axis of a network's tables as a line. Assumes nothing.
-use mathlib.Core.Path.{_≡_, refl, sym, ap, subst, _∙_}
+use mathlib.Core.Path.{_≡_, sym, _∙_}
 use mathlib.Core.List.{List}
 use Prim.Native.Nat.{ℕ, _+_, _≤_, _<_}
 use native.Mathlib.Omega.{arith}
 use lib.IntN.{ℤ, pos, natAbs, _+ℤ_}
-use lib.Signed.{_≤ℤ_}
 use lib.ListN.{length, getD}
 use mir.Val.{SFits, toZ, ofZ}
 use mir.Syntax.{w64}
@@ -12,13 +11,13 @@ use Rattle.std.proofs.shelf.Signed.{ints, toZ-ofZ}
 use Rattle.chains.specs.declared.measure.Steps.{Steps}
 use Rattle.network.specs.declared.axis.Axis.{Axis}
 use Rattle.network.specs.declared.axis.Axis.the-variants.{First, Second}
-use Rattle.network.specs.Tables.{pointIn, reachIn, layoutOf, Sound}
+use Rattle.network.specs.Tables.{pointIn, layoutOf, Sound}
 use Rattle.network.specs.Line.{Highest, Tight}
 use Rattle.network.specs.Lines.{lineOf, Shaped}
 use Rattle.network.specs.Axes.{number-on, Least, Most, GreatestOn, ShortOn}
 use Rattle.network.specs.Chain.{Written}
 use Rattle.network.proofs.Sums.{written-weaker}
-use Rattle.network.proofs.Raise.{lineIn, raised, raised-short}
+use Rattle.network.proofs.Raise.{raised, raised-short}
 
 two-near : (low x : ℤ) (p : ℕ) → x ≡ low +ℤ pos p → natAbs x ≤ 100000 → natAbs low ≤ 100000 → p ≤ 200000
 two-near low x p e h k = omega (arith, ints)

@@ -1,13 +1,13 @@
 -- What the search on a line leaves in its tables. Assumes nothing.
-use mathlib.Core.Path.{_≡_, refl, sym, ap, subst, _∙_}
+use mathlib.Core.Path.{_≡_}
 use mathlib.Core.List.{List}
-use Prim.Native.Nat.{ℕ, _^_, _≤_, _<_}
+use Prim.Native.Nat.{ℕ, _<_}
 use native.Mathlib.Omega.{arith}
 use lib.ListN.{length, getD}
 use Rattle.chains.specs.Measures.{no-steps, add-steps, fewer}
 use Rattle.chains.specs.Chains.{Best-found}
 use Rattle.chains.specs.declared.measure.Steps.{Steps}
-use Rattle.network.specs.Line.{Line, Highest, Start, Upto, Sits, TooLow, stepsOf}
+use Rattle.network.specs.Line.{Highest, Start, Upto, TooLow, stepsOf}
 use Rattle.network.specs.Tables.{reachIn}
 use Rattle.network.specs.Lines.{lineOf, Shaped, Searched, Held-down}
 use Rattle.network.proofs.Best.{highest}

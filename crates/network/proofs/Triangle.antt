@@ -1,13 +1,13 @@
 -- A short chain rules out every positions. Assumes nothing.
-use mathlib.Core.Path.{_≡_, refl, sym, ap, subst, _∙_}
+use mathlib.Core.Path.{_≡_}
 use mathlib.Core.List.{List, [], _∷_}
-use Prim.Native.Nat.{ℕ, _+_, _≤_, _<_, max}
+use Prim.Native.Nat.{ℕ, _+_, _≤_, _<_}
 use native.Mathlib.Omega.{arith}
 use lib.IntN.{ℤ, natAbs, _-ℤ_}
 use Rattle.std.specs.shelf.Lists.{All}
 use Rattle.std.proofs.shelf.Signed.{ints}
-use Rattle.network.specs.Layout.{Layout, apart, Within, Meets}
-use Rattle.network.specs.Chain.{reaches-onward, reaches-along, AddTo, Short, ShortRulesOut}
+use Rattle.network.specs.Layout.{Layout, apart, Meets}
+use Rattle.network.specs.Chain.{reaches-onward, reaches-along, AddTo, ShortRulesOut}
 use Rattle.network.proofs.Sums.{within-limited, add-first}
 
 gap-triangle : (x y z : ℤ) → natAbs (x -ℤ z) ≤ natAbs (x -ℤ y) + natAbs (y -ℤ z)

@@ -3,17 +3,15 @@ use mathlib.Core.Path.{_≡_, refl, sym, ap, subst, _∙_}
 use mathlib.Core.List.{List, [], _∷_, _++_, reverse, reverseAux}
 use mathlib.Core.Logic.{_≢_}
 use Prim.Native.Nat.{ℕ, _+_, _-_, _<_, _≤_}
-use lib.ListN.{length, take, drop, replicate, length-reverse}
+use lib.ListN.{take, drop, replicate, length-reverse}
 use Rattle.std.specs.declared.result.Result.the-variants.{Err}
 use Rattle.network.specs.declared.line.Held.{Held}
 use native.Mathlib.Omega.{arith}
-use lib.IntN.{ℤ}
 use Rattle.std.specs.shelf.Lists.{All}
 use Rattle.std.proofs.shelf.Lists.{take-at, drop-at}
 use Rattle.chains.specs.Chains.{Different}
 use Rattle.chains.proofs.Reversed.{all-reversed, different-reversed}
 use Rattle.chains.specs.declared.measure.Steps.{Steps}
-use Rattle.chains.specs.declared.measure.Steps.the-variants.{Limited, Unlimited}
 use Rattle.network.specs.Layout.{Layout, apart}
 use Rattle.network.specs.Chain.{reaches-onward, reaches-along, AddTo, Chained, Short}
 use Rattle.network.specs.Networks.{Solved-both, turned-chain}

@@ -5,7 +5,6 @@ use Prim.Native.Nat.{ℕ, _<_, _≤_}
 use lib.IntN.{ℤ, pos, natAbs, _-ℤ_}
 use lib.Signed.{_≤ℤ_}
 use lib.ListN.{getD}
-use Rattle.chains.specs.declared.measure.Steps.{Steps}
 use Rattle.std.specs.declared.result.Result.{Result}
 use Rattle.std.specs.declared.result.Result.the-variants.{Ok, Err}
 use Rattle.network.specs.declared.axis.Axis.{Axis}

@@ -9,7 +9,7 @@ use Rattle.std.specs.declared.option.Option.the-variants.{Some, None}
 use Rattle.yard.specs.declared.force.InForce.{InForce}
 use Rattle.yard.specs.declared.force.Mast.{Mast}
 use Rattle.yard.specs.declared.force.Terms.{Terms}
-use Rattle.yard.specs.Force.{new-terms, new-row, opened-at, mast-at, mast-terms, link-at}
+use Rattle.yard.specs.Force.{new-terms, new-row, opened-at, mast-terms}
 use Rattle.yard.specs.Edits.{kept-terms, with-link}
 use Rattle.yard.specs.Sound.{foot-on-grid, on-grid, fair, fair-if, feeder-fair, link-fair}
 

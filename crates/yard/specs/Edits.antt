@@ -1,5 +1,5 @@
 -- When an edit is refused, and what is in force after it.
-use mathlib.Core.Bool.{Bool, true, false, not, cond, _||_}
+use mathlib.Core.Bool.{Bool, false, not, cond, _||_}
 use mathlib.Core.List.{List, [], _∷_}
 use Prim.Native.Nat.{ℕ, min, max}
 use lib.Dec.{ltb, leb, eqb}
@@ -16,9 +16,8 @@ use Rattle.yard.specs.declared.edit.Edit.{Edit}
 use Rattle.yard.specs.declared.edit.Edit.the-variants.{Open, Raise, Strike, Feeder, Link}
 use Rattle.yard.specs.declared.force.InForce.{InForce}
 use Rattle.yard.specs.declared.force.Mast.{Mast}
-use Rattle.yard.specs.declared.force.Point.{Point}
 use Rattle.yard.specs.declared.force.Terms.{Terms}
-use Rattle.yard.specs.Force.{new-terms, new-row, opened-at, mast-at, stands}
+use Rattle.yard.specs.Force.{new-row, opened-at, mast-at, stands}
 use Rattle.yard.specs.Rows.{Held, held, first-held}
 
 -- a coordinate goes from −50,000 to 50,000

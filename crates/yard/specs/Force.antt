@@ -1,5 +1,4 @@
 -- What is in force on a plan, and the terms of its runs.
-use mathlib.Core.Path.{_≡_}
 use mathlib.Core.Bool.{Bool, true, false, cond}
 use mathlib.Core.List.{List, []}
 use Prim.Native.Nat.{ℕ, min, max}

@@ -1,4 +1,3 @@
-use mathlib.Core.Path.{_≡_}
 use mir.Val.{SFits}
 use mir.Syntax.{w32}
 use borrow.Author.Needs.{needs}

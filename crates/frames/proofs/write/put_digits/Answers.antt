@@ -1,5 +1,4 @@
-use mathlib.Core.Path.{_≡_, refl, ap, _∙_}
-use borrow.Author.Needs.{needs}
+use mathlib.Core.Path.{refl, ap, _∙_}
 use lib.ListN.{getD}
 use Rattle.std.proofs.shelf.Lists.{take-all}
 use Rattle.frames.specs.Digits.{hex}

@@ -1,5 +1,5 @@
 use mathlib.Core.Path.{refl}
-use mathlib.Core.List.{_∷_, _++_}
+use mathlib.Core.List.{_∷_}
 use Rattle.frames.specs.Fields.{spelled}
 use Rattle.frames.specs.Frames.{told-fields}
 use Rattle.frames.proofs.Lined.{too-many}

@@ -1,11 +1,9 @@
-use mathlib.Core.Path.{_≡_, sym, _∙_}
+use mathlib.Core.Path.{_∙_}
 use Prim.Native.Nat.{ℕ}
-use native.Mathlib.Omega.{arith}
 use borrow.Author.Needs.{needs}
-use lib.Signed.{_≤ℤ_}
 use mir.Val.{SFits}
 use mir.Syntax.{w64}
-use Rattle.std.proofs.shelf.Signed.{toZ-ofZ, ints}
+use Rattle.std.proofs.shelf.Signed.{toZ-ofZ}
 use Rattle.network.specs.Tables.{pointIn}
 use Rattle.network.specs.Axes.{number-on}
 use Rattle.network.proofs.Ends.{least-one, least-keeps, least-takes}

@@ -1,4 +1,3 @@
-use lib.ListN.{length}
 use Rattle.network.specs.Tables.{pointIn}
 use Rattle.network.specs.Axes.{number-on, Least}
 use Rattle.network.proofs.axis.lowest.Given as given

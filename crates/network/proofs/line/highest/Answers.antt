@@ -1,6 +1,4 @@
-use mathlib.Core.Path.{_≡_}
 use native.Mathlib.Omega.{arith}
-use lib.ListN.{length}
 use Rattle.network.proofs.Solving.{held-down, solved}
 use Rattle.network.proofs.line.highest.Needs as need
 

@@ -2,7 +2,6 @@ use Prim.Native.Nat.{ℕ, _-_, _≤_, _<_}
 use mathlib.Core.Path.{_≡_}
 use mathlib.Core.Bool.{true, false}
 use lib.ListN.{getD}
-use Rattle.chains.specs.Marked.{marks-of}
 use Rattle.chains.proofs.marks.Marks.next.Given as given
 
 abbrev pub Inv-loop-p : given.InvT-loop-p

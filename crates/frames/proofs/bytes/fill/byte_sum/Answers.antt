@@ -1,4 +1,4 @@
-use mathlib.Core.Path.{_≡_, refl, ap, _∙_}
+use mathlib.Core.Path.{refl, ap, _∙_}
 use Prim.Native.Nat.{_%_}
 use Rattle.frames.specs.Frames.{total-of}
 use Rattle.std.proofs.shelf.Lists.{take-all}

@@ -1,7 +1,6 @@
-use mathlib.Core.Path.{_≡_, refl, sym}
+use mathlib.Core.Path.{_≡_, refl}
 use mathlib.Core.Bool.{true}
 use Prim.Native.Nat.{ℕ}
-use borrow.Author.Needs.{needs}
 use Rattle.std.specs.declared.option.Option.the-variants.{Some}
 use Rattle.yard.specs.Force.{mast-terms}
 use Rattle.yard.specs.Sound.{foot-on-grid, fair-if}
