@@ -1,11 +1,10 @@
 -- Reaches that are limited, and their sums. Assumes nothing.
-use mathlib.Core.Path.{_≡_, refl, ap, _∙_}
+use mathlib.Core.Path.{_≡_, refl}
 use mathlib.Core.Bool.{true}
-use mathlib.Core.List.{List, [], _∷_}
+use mathlib.Core.List.{List, _∷_}
 use Prim.Native.Nat.{ℕ, _+_, _^_, _≤_, _<_}
 use native.Mathlib.Omega.{arith}
 use Rattle.std.proofs.shelf.Ways.{tells}
-use Rattle.chains.specs.Along.{value-onward}
 use Rattle.chains.specs.Measures.{add-steps, fewer}
 use Rattle.chains.specs.declared.measure.Steps.{Steps}
 use Rattle.chains.specs.declared.measure.Steps.the-variants.{Limited, Unlimited}
@@ -41,21 +40,6 @@ under-sum x w a r h k e = grind (arith, tells)
 
 pub limited-same : (x y : ℕ) → Limited x ≡ Limited y → x ≡ y
 limited-same x y e = cc
-
--- a sum of limited steps that fits 64 bits is limited: it does not saturate
-pub add-fits : (a b : ℕ) → a + b < 2 ^ 64 → add-steps (Limited a) (Limited b) ≡ Limited (a + b)
-add-fits a b h = grind (arith, tells)
-
--- the numbers of limited runs from p by ps
-pub data Runs (run : ℕ → ℕ → Steps) : ℕ → List ℕ → ℕ → Type 0 where
-  end : {p : ℕ} → Runs run p [] 0
-  more : {p q : ℕ} {ps : List ℕ} {r t : ℕ} → run p q ≡ Limited r → Runs run q ps t → Runs run p (q ∷ ps) (r + t)
-
--- The value of a chain of limited runs is the sum of their numbers, as long as that fits 64 bits.
-pub sums-fit : (run : ℕ → ℕ → Steps) (x p : ℕ) (ps : List ℕ) (t : ℕ) → Runs run p ps t → x + t < 2 ^ 64 → value-onward add-steps run (Limited x) p ps ≡ Limited (x + t)
-sums-fit run x p [] _ end h = ap Limited (omega arith)
-sums-fit run x p (q ∷ ps) _ (more {r} {t} e k) h =
-    ap (λ s. value-onward add-steps run (add-steps (Limited x) s) q ps) e ∙ ap (λ s. value-onward add-steps run s q ps) (add-fits x r (omega arith)) ∙ sums-fit run (x + r) q ps t k (omega arith) ∙ ap Limited (omega arith)
 
 -- what holds of a chain that is written
 pub written-weaker : (P Q : List ℕ → Type 0) → ((c : List ℕ) → P c → Q c) → (count : ℕ) (list : List ℕ) → Written P count list → Written Q count list
