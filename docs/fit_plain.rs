@@ -1,32 +1,71 @@
-// The fit in plain Rust, to compare its cost with. It takes the number of fits as its argument. Compile with `rustc -O`.
-#[derive(Clone, Copy, PartialEq)]
-enum Steps {
-    Limited(u64),
-    Unlimited,
-}
-impl Steps {
-    fn join(self, o: Steps) -> Steps {
-        match (self, o) {
-            (Steps::Limited(a), Steps::Limited(b)) => {
-                a.checked_add(b).map_or(Steps::Unlimited, Steps::Limited)
+// The fit in plain Rust, to compare its cost with. It takes the number of fits as its argument. Compile with `rustc -O`, or with
+// `rustc -O --cfg packed` for a reach as one number.
+#[cfg(not(packed))]
+mod reach {
+    #[derive(Clone, Copy, PartialEq)]
+    pub enum Steps {
+        Limited(u64),
+        Unlimited,
+    }
+    pub const UNLIMITED: Steps = Steps::Unlimited;
+    pub fn limited(steps: u64) -> Steps {
+        Steps::Limited(steps)
+    }
+    impl Steps {
+        pub fn join(self, o: Steps) -> Steps {
+            match (self, o) {
+                (Steps::Limited(a), Steps::Limited(b)) => {
+                    a.checked_add(b).map_or(Steps::Unlimited, Steps::Limited)
+                }
+                _ => Steps::Unlimited,
             }
-            _ => Steps::Unlimited,
         }
-    }
-    fn at_least_as_good(self, o: Steps) -> bool {
-        match (self, o) {
-            (Steps::Limited(a), Steps::Limited(b)) => a <= b,
-            (Steps::Unlimited, Steps::Limited(_)) => false,
-            (_, Steps::Unlimited) => true,
+        pub fn at_least_as_good(self, o: Steps) -> bool {
+            match (self, o) {
+                (Steps::Limited(a), Steps::Limited(b)) => a <= b,
+                (Steps::Unlimited, Steps::Limited(_)) => false,
+                (_, Steps::Unlimited) => true,
+            }
         }
-    }
-    fn steps(self) -> u64 {
-        match self {
-            Steps::Limited(x) => x,
-            _ => 0,
+        pub fn steps(self) -> u64 {
+            match self {
+                Steps::Limited(x) => x,
+                Steps::Unlimited => 0,
+            }
+        }
+        pub fn limit(self) -> Option<u64> {
+            match self {
+                Steps::Limited(x) => Some(x),
+                Steps::Unlimited => None,
+            }
         }
     }
 }
+// A reach as one number, whose greatest value is unlimited.
+#[cfg(packed)]
+mod reach {
+    #[derive(Clone, Copy, PartialEq)]
+    pub struct Steps(u64);
+    pub const UNLIMITED: Steps = Steps(u64::MAX);
+    pub fn limited(steps: u64) -> Steps {
+        Steps(steps)
+    }
+    impl Steps {
+        pub fn join(self, o: Steps) -> Steps {
+            Steps(self.0.saturating_add(o.0))
+        }
+        pub fn at_least_as_good(self, o: Steps) -> bool {
+            self.0 <= o.0
+        }
+        pub fn steps(self) -> u64 {
+            self.0
+        }
+        pub fn limit(self) -> Option<u64> {
+            Some(self.0)
+        }
+    }
+}
+use reach::{limited, Steps, UNLIMITED};
 struct Held {
     from: usize,
     to: usize,
@@ -73,14 +112,14 @@ fn highest(
     links: &[[Steps; 12]],
 ) -> Result<[u64; 12], Held> {
     let n = links.len();
-    let mut first = [Steps::Unlimited; 12];
-    let mut best = [Steps::Unlimited; 12];
+    let mut first = [UNLIMITED; 12];
+    let mut best = [UNLIMITED; 12];
     let mut before = [0u8; 12];
     let (first, best, before) = (&mut first[..n], &mut best[..n], &mut before[..n]);
     for j in 0..n {
-        let mut b = Steps::Limited(width);
+        let mut b = limited(width);
         for (place, row) in places.iter().zip(feeders) {
-            let other = Steps::Limited(*place).join(row[j]);
+            let other = limited(*place).join(row[j]);
             if !b.at_least_as_good(other) {
                 b = other;
             }
@@ -91,7 +130,7 @@ fn highest(
     for j in 0..n {
         let x = best[j].steps();
         for (i, (place, row)) in places.iter().zip(feeders).enumerate() {
-            if let Steps::Limited(r) = row[j] {
+            if let Some(r) = row[j].limit() {
                 if place.saturating_sub(x) > r {
                     let mut chain = vec![j as u8];
                     let mut p = j;
@@ -103,7 +142,7 @@ fn highest(
                     let from = places
                         .iter()
                         .zip(feeders)
-                        .position(|(q, row)| Steps::Limited(*q).join(row[p]) == first[p])
+                        .position(|(q, row)| limited(*q).join(row[p]) == first[p])
                         .unwrap();
                     let mut pillars = [0; 12];
                     pillars[..chain.len()].copy_from_slice(&chain);
@@ -182,8 +221,8 @@ fn main() {
     let count: u64 = std::env::args().nth(1).unwrap().parse().unwrap();
     let mut x: u64 = 12345;
     let mut points = [(0i32, 0i32); 40];
-    let mut feeders = [[Steps::Unlimited; 12]; 40];
-    let mut links = [[Steps::Unlimited; 12]; 12];
+    let mut feeders = [[UNLIMITED; 12]; 40];
+    let mut links = [[UNLIMITED; 12]; 12];
     for i in 0..40 {
         x = next(x);
         let s = ((x >> 33) % 200_000) as i32 - 100_000;
@@ -193,23 +232,23 @@ fn main() {
         for j in 0..12 {
             x = next(x);
             feeders[i][j] = if (x >> 40) % 8 == 0 {
-                Steps::Unlimited
+                UNLIMITED
             } else {
-                Steps::Limited(200_000 + (x >> 33) % 100_000)
+                limited(200_000 + (x >> 33) % 100_000)
             };
         }
     }
     for j in 0..12 {
         for k in 0..j {
             x = next(x);
-            let r = Steps::Limited((x >> 33) % 100_000);
+            let r = limited((x >> 33) % 100_000);
             links[j][k] = r;
             links[k][j] = r;
         }
     }
     let (mut sum, mut short) = (0i64, 0u64);
     for round in 0..count {
-        feeders[0][0] = Steps::Limited(300_000 + round);
+        feeders[0][0] = limited(300_000 + round);
         match fit(&points, &feeders, &links) {
             Some(Ok((s, t))) => {
                 for j in 0..12 {
