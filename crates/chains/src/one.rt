@@ -22,7 +22,7 @@ pub fn best_chain_to<M: Measure>(
     v: u8,
     out: &mut [u8],
 ) -> Result<BestChain<M>, Misfit>
-    ensures { MatchResult result (λ b. AsksFit first.now runs.now v out.old × BestWritten op leq (value_at empty first.now) (run_at empty runs.now) (length first.now) v b.value b.count out.old out.new) (λ _. (AsksFit first.now runs.now v out.old → ⊥) × (out.new ≡ out.old)) }
+    ensures { MatchResult result (λ b. AsksFit first.now runs.now v out.old × BestWritten M.op M.leq (value_at M.empty first.now) (run_at M.empty runs.now) (length first.now) v b.value b.count out.old out.new) (λ _. (AsksFit first.now runs.now v out.old → ⊥) × (out.new ≡ out.old)) }
 {
     let n = first.len();
     if n > 12 || v as usize >= n || out.len() < n {

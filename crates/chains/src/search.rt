@@ -11,8 +11,8 @@ use super::measure::Measure;
 fn offer<M: Measure>(u: u8, from: M, row: &[M], best: &mut [M], before: &mut [u8])
     requires row { length best.old ≤ length row.now }
     requires before { length before.old ≡ length best.old }
-    ensures best { (v : ℕ) → v < length best.old → value_at empty best.new v ≡ (if leq (value_at empty best.old v) (op from (value_at empty row.now v)) then value_at empty best.old v else op from (value_at empty row.now v)) }
-    ensures before { (v : ℕ) → v < length best.old → pillar_at before.new v ≡ (if leq (value_at empty best.old v) (op from (value_at empty row.now v)) then pillar_at before.old v else u) }
+    ensures best { (v : ℕ) → v < length best.old → value_at M.empty best.new v ≡ (if M.leq (value_at M.empty best.old v) (M.op from (value_at M.empty row.now v)) then value_at M.empty best.old v else M.op from (value_at M.empty row.now v)) }
+    ensures before { (v : ℕ) → v < length best.old → pillar_at before.new v ≡ (if M.leq (value_at M.empty best.old v) (M.op from (value_at M.empty row.now v)) then pillar_at before.old v else u) }
 {
     for v in 0..best.len() {
         let through = from.join(row[v]);
@@ -26,7 +26,7 @@ fn offer<M: Measure>(u: u8, from: M, row: &[M], best: &mut [M], before: &mut [u8
 // The best of the pillars that are not finished, or none where all are.
 fn nearest<M: Measure>(marks: &Marks, best: &[M]) -> Option<usize>
     requires { length best.now ≡ length (marks_of marks.now) }
-    ensures { MatchOption result ((k : ℕ) → k < length best.now → Finished (marks_of marks.now) k) (λ u. BestUnfinished leq (marks_of marks.now) (length best.now) (value_at empty best.now) u) }
+    ensures { MatchOption result ((k : ℕ) → k < length best.now → Finished (marks_of marks.now) k) (λ u. BestUnfinished M.leq (marks_of marks.now) (length best.now) (value_at M.empty best.now) u) }
 {
     let mut u = marks.next(0);
     let mut k = u;
@@ -44,7 +44,7 @@ fn enter<M: Measure>(first: &[M], best: &mut [M], before: &mut [u8])
     requires few { length first.now ≤ 12 }
     requires best { length best.old ≡ length first.now }
     requires before { length before.old ≡ length first.now }
-    ensures best { (v : ℕ) → v < length first.now → value_at empty best.new v ≡ value_at empty first.now v }
+    ensures best { (v : ℕ) → v < length first.now → value_at M.empty best.new v ≡ value_at M.empty first.now v }
     ensures before { (v : ℕ) → v < length first.now → pillar_at before.new v ≡ v }
 {
     for v in 0..first.len() {
@@ -56,7 +56,7 @@ fn enter<M: Measure>(first: &[M], best: &mut [M], before: &mut [u8])
 // The search itself, over tables that fit together.
 fn search<M: Measure>(first: &[M], runs: &[[M; 12]], best: &mut [M], before: &mut [u8])
     requires { TablesFit first.now runs.now best.old before.old }
-    ensures { BestFound op leq (value_at empty first.now) (run_at empty runs.now) (length first.now) (value_at empty best.new) (pillar_at before.new) }
+    ensures { BestFound M.op M.leq (value_at M.empty first.now) (run_at M.empty runs.now) (length first.now) (value_at M.empty best.new) (pillar_at before.new) }
 {
     enter(first, best, before);
     let mut marks = Marks::new(first.len());
@@ -80,7 +80,7 @@ pub fn best_chains<M: Measure>(
     best: &mut [M],
     before: &mut [u8],
 ) -> Result<(), Misfit>
-    ensures { MatchResult result (λ _. TablesFit first.now runs.now best.old before.old × BestFound op leq (value_at empty first.now) (run_at empty runs.now) (length first.now) (value_at empty best.new) (pillar_at before.new)) (λ _. (TablesFit first.now runs.now best.old before.old → ⊥) × (best.new ≡ best.old) × (before.new ≡ before.old)) }
+    ensures { MatchResult result (λ _. TablesFit first.now runs.now best.old before.old × BestFound M.op M.leq (value_at M.empty first.now) (run_at M.empty runs.now) (length first.now) (value_at M.empty best.new) (pillar_at before.new)) (λ _. (TablesFit first.now runs.now best.old before.old → ⊥) × (best.new ≡ best.old) × (before.new ≡ before.old)) }
 {
     let n = first.len();
     if n > 12 || runs.len() != n || best.len() != n || before.len() != n {

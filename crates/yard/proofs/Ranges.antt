@@ -25,38 +25,33 @@ replicate_passes test d x (suc n) e f (suc k) = replicate_passes test d x n e f 
 
 -- the facts of a plan, as its type has them
 abbrev Facts : InForce → Type 0
-Facts F =
-    ((0 < F.count) × (F.count ≤ 12))
-    × (((m : ℕ) → on_grid F m ≡ true) × (((m p : ℕ) → feeder_fair F m p ≡ true) × (((p q : ℕ) → link_fair F p q ≡ true) × Unit {0})))
+Facts F = record {
+  counted : (0 < F.count) × (F.count ≤ 12);
+  near : (m : ℕ) → on_grid F m ≡ true;
+  feeders : (m p : ℕ) → feeder_fair F m p ≡ true;
+  links : (p q : ℕ) → link_fair F p q ≡ true;
+}
 
 row_fair : (p : ℕ) → fair (get_or new_row p new_terms) ≡ true
 row_fair = replicate_passes fair new_terms new_terms 12 refl refl
 
 pub opened_facts : (F : InForce) (n : ℕ) → F ≡ opened_at n → 0 < n → n ≤ 12 → Facts F
-opened_facts F n e l h = rw e (
-  (l, h),
-  (
-    replicate_passes foot_on_grid None None 40 refl refl,
-    (
-      λ m p. replicate_passes (λ o. fair_if (mast_terms o p)) None None 40 refl refl m,
-      (λ p q. replicate_passes (λ row. fair (get_or row q new_terms)) [] new_row 12 (row_fair q) refl p, tt),
-    ),
-  ),
-)
+opened_facts F n e l h = rw e (record {
+  counted = (l, h);
+  near = replicate_passes foot_on_grid None None 40 refl refl;
+  feeders = λ m p. replicate_passes (λ o. fair_if (mast_terms o p)) None None 40 refl refl m;
+  links = λ p q. replicate_passes (λ row. fair (get_or row q new_terms)) [] new_row 12 (row_fair q) refl p;
+})
 
 -- a mast's place gets another mast, or none
 pub mast_facts : (F G : InForce) (m : ℕ) (o : Option Mast) → G ≡ record { count = F.count; masts = set F.masts m o; links = F.links } →
     foot_on_grid o ≡ true → ((p : ℕ) → fair_if (mast_terms o p) ≡ true) → Facts F → Facts G
-mast_facts F G m o e foot terms was = rw e (
-  was.0,
-  (
-    set_passes foot_on_grid None F.masts m o foot was.1.0,
-    (
-      λ k p. set_passes (λ a. fair_if (mast_terms a p)) None F.masts m o (terms p) (λ j. was.1.1.0 j p) k,
-      was.1.1.1,
-    ),
-  ),
-)
+mast_facts F G m o e foot terms was = rw e (record {
+  counted = was.counted;
+  near = set_passes foot_on_grid None F.masts m o foot was.near;
+  feeders = λ k p. set_passes (λ a. fair_if (mast_terms a p)) None F.masts m o (terms p) (λ j. was.feeders j p) k;
+  links = was.links;
+})
 
 -- the terms that a raised mast has
 pub kept_fair : (o : Option Mast) → ((p : ℕ) → fair_if (mast_terms o p) ≡ true) → (p : ℕ) → fair (get_or (kept_terms o) p new_terms) ≡ true
@@ -70,17 +65,10 @@ feeder_set_fair = set_passes fair new_terms
 -- one link gets other terms
 pub link_facts : (F G : InForce) (p q : ℕ) (t : Terms) → G ≡ record { count = F.count; masts = F.masts; links = with_link F.links p q t } →
     fair t ≡ true → Facts F → Facts G
-link_facts F G p q t e new was = rw e (
-  was.0,
-  (
-    was.1.0,
-    (
-      was.1.1.0,
-      (
-        λ i j. set_passes (λ row. fair (get_or row j new_terms)) [] F.links p (set (get_or F.links p []) q t)
-            (set_passes fair new_terms (get_or F.links p []) q t new (λ n. was.1.1.1.0 p n) j) (λ n. was.1.1.1.0 n j) i,
-        tt,
-      ),
-    ),
-  ),
-)
+link_facts F G p q t e new was = rw e (record {
+  counted = was.counted;
+  near = was.near;
+  feeders = was.feeders;
+  links = λ i j. set_passes (λ row. fair (get_or row j new_terms)) [] F.links p (set (get_or F.links p []) q t)
+      (set_passes fair new_terms (get_or F.links p []) q t new (λ n. was.links p n) j) (λ n. was.links n j) i;
+})

@@ -22,4 +22,4 @@ loop-u-preserved g c =
 pub returns : goal.returns
 returns g c =
     let best_long : length c.loop-u.best ≡ length c.args.first.now = omega arith in
-    tables_end g.met.M.Measure.lawful c.args.first.now c.args.runs.now c.loop-u.best c.loop-u.before (marks_of c.loop-u.marks) c.loop-u.invariant (rw best_long at c.in-default.ensures)
+    tables_end g.met.M.Measure.lawful c.args.first.now c.args.runs.now c.loop-u.best c.loop-u.before (marks_of c.loop-u.marks) c.loop-u.invariant (rw best_long at c.in_default.ensures)

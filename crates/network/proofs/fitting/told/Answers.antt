@@ -11,4 +11,4 @@ returns c =
       | then-held w ↦ ordered_kept L c.requires.sound.even c.args.held c.requires.short _ w.from-is w.if-held.true
       | else-held w ↦ ordered_turned L c.requires.sound.even c.args.held c.requires.short _ (w.from-is ∙ w.turned.ensures) w.if-held.false
     ] in
-    record { chain = rw c.length-between.ensures O.chain; order = O.order }
+    record { chain = rw c.length_between.ensures O.chain; order = O.order }

@@ -3,7 +3,7 @@ use Rattle.network.proofs.Holding.{holding_told, holding_start, holding_giver, h
 use Rattle.network.proofs.line.holding_chain.Goals as goal
 
 pub unreachable-requires : goal.unreachable-requires
-unreachable-requires c = holding_told c.requires (replicate 12 0) (omega arith) c.in-default.ensures.0
+unreachable-requires c = holding_told c.requires (replicate 12 0) (omega arith) c.in_default.ensures.0
 
 pub bounds-first-start : goal.bounds-first-start
 bounds-first-start c = omega (arith, c.requires.searched.first_long, holding_start c.requires c.in-Some.ensures)
@@ -16,8 +16,8 @@ giver-from-requires c =
       some = holding_giver c.requires c.in-Some.ensures;
     }
 
-pub overflow-sub-total : goal.overflow-sub-total
-overflow-sub-total c = omega (arith, c.steps-in.ensures, c.steps-in-2.ensures, holding_sub c.requires c.in-Some.ensures c.giver-from.result c.giver-from.ensures.within c.giver-from.ensures.gives)
+pub overflow_sub-total : goal.overflow_sub-total
+overflow_sub-total c = omega (arith, c.steps_in.ensures, c.steps_in-2.ensures, holding_sub c.requires c.in-Some.ensures c.giver-from.result c.giver-from.ensures.within c.giver-from.ensures.gives)
 
 pub returns : goal.returns
-returns c = rw (c.steps-in.ensures, c.steps-in-2.ensures) (holding_written c.requires c.in-Some.ensures c.giver-from.result c.giver-from.ensures.within c.giver-from.ensures.gives)
+returns c = rw (c.steps_in.ensures, c.steps_in-2.ensures) (holding_written c.requires c.in-Some.ensures c.giver-from.result c.giver-from.ensures.within c.giver-from.ensures.gives)
