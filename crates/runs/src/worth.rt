@@ -45,7 +45,7 @@ impl Worth for Tied {
 // What the links of a pillar to each pillar are worth.
 fn link_row<M: Worth>(plan: &Plan, level: u32, p: usize) -> [M; 12]
     requires { p < 12 }
-    ensures { (q : ℕ) → q < plan.now.force.count → slice_index_or result q M.Measure.empty ≡ worth (run_terms plan.now.force (link_run p q)) level }
+    ensures { (q : ℕ) → q < plan.now.force.count → slice_index_or result q M.Measure.empty ≡ M.worth (run_terms plan.now.force (link_run p q)) level }
 {
     let mut row = [M::none(); 12];
     let rows = plan.links();
@@ -57,7 +57,7 @@ fn link_row<M: Worth>(plan: &Plan, level: u32, p: usize) -> [M; 12]
 
 // What the links between each two pillars are worth: a row for each pillar.
 pub fn link_rows<M: Worth>(plan: &Plan, level: u32) -> [[M; 12]; 12]
-    ensures { (p q : ℕ) → p < plan.now.force.count → q < plan.now.force.count → run_at M.Measure.empty result p q ≡ worth (run_terms plan.now.force (link_run p q)) level }
+    ensures { (p q : ℕ) → p < plan.now.force.count → q < plan.now.force.count → run_at M.Measure.empty result p q ≡ M.worth (run_terms plan.now.force (link_run p q)) level }
 {
     let mut rows = [[M::none(); 12]; 12];
     for p in 0..plan.pillars() as usize {

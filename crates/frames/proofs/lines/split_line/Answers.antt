@@ -4,8 +4,8 @@ use Rattle.frames.specs.Lines.{lines_of}
 use Rattle.frames.proofs.Splitting.{cut, uncut, first_of_lines}
 use Rattle.frames.proofs.lines.split_line.Goals as goal
 
-pub returns-then-is-empty : goal.returns-then-is-empty
-returns-then-is-empty c =
+pub returns-then-is_empty : goal.returns-then-is_empty
+returns-then-is_empty c =
     let none : c.args.input.now ≡ [] = search (rules, nil_from_length) in
     record { parts = none; lines = ap lines_of none }
 

@@ -4,20 +4,20 @@ use Rattle.frames.specs.Held.{held}
 use Rattle.frames.proofs.Spelling.{well_long, as_many, spelled_on, no_byte, all_spelled}
 use Rattle.frames.proofs.read.bytes_of.Goals as goal
 
-pub returns-in-err-byte : goal.returns-in-err-byte
-returns-in-err-byte c =
-    let p = err_from_is_err_and c.from-residual.result c.from-residual.ensures.1 in
+pub returns-in_err-byte : goal.returns-in_err-byte
+returns-in_err-byte c =
+    let p = err_from_is_err_and c.from_residual.result c.from_residual.ensures.1 in
     let good = well_long c.args.line.now (search rules) (search rules) (search rules) in
-    rw (p.1, p.2) (no_byte c.args.line.now (held c.loop-i.bytes) c.loop-i.i c.loop-i.invariant (search rules) good c.in-err-byte.field-0.0 c.in-err-byte.ensures)
+    rw (p.1, p.2) (no_byte c.args.line.now (held c.loop-i.bytes) c.loop-i.i c.loop-i.invariant (search rules) good c.in_err-byte.field-0.0 c.in_err-byte.ensures)
 
 pub unreachable-requires : goal.unreachable-requires
 unreachable-requires c =
     let n = as_many c.args.line.now (held c.loop-i.bytes) c.loop-i.i c.loop-i.invariant (search rules) in
-    omega (arith, c.in-default.ensures)
+    omega (arith, c.in_default.ensures)
 
 pub loop-i-preserved : goal.loop-i-preserved
 loop-i-preserved c =
-    spelled_on c.args.line.now (held c.loop-i.bytes) c.loop-i.i c.loop-i.invariant (search rules) c.in-ok-byte.byte _ c.in-Ok.ensures c.in-ok-byte.ensures
+    spelled_on c.args.line.now (held c.loop-i.bytes) c.loop-i.i c.loop-i.invariant (search rules) c.in_ok-byte.byte _ c.in-Ok.ensures c.in_ok-byte.ensures
 
 pub returns : goal.returns
 returns c =

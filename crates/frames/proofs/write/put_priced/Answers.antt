@@ -7,4 +7,4 @@ use Rattle.frames.proofs.write.put_priced.Goals as goal
 
 pub returns : goal.returns
 returns c =
-    known (λ (fs : List Field). 137 ∷ spelled (fs ++ (Word c.args.length ∷ Word c.args.cents ∷ []))) _ _ _ _ _ c.run-ends-class.ensures c.put-line.ensures
+    known (λ (fs : List Field). 137 ∷ spelled (fs ++ (Word c.args.length ∷ Word c.args.cents ∷ []))) _ _ _ _ _ c.run_ends-class.ensures c.put_line.ensures

@@ -10,11 +10,11 @@ pub loop-p-init : goal.loop-p-init
 loop-p-init c =
     let F = c.args.plan.now.force in
     let ps = numbers_from 0 F.count in
-    rw (sub-zero, c.pillars-count.ensures, c.dearest-of-feeders-best.ensures)
+    rw (sub-zero, c.pillars-count.ensures, c.dearest_of_feeders-best.ensures)
     (sym (dearest_append (price_by F c.args.stand.now) None (all_feeders (standing_from 0 F.masts) ps) (all_links ps)))
 
-pub dearest-link-best-requires : goal.dearest-link-best-requires
-dearest-link-best-requires c =
+pub dearest_link-best-requires : goal.dearest_link-best-requires
+dearest_link-best-requires c =
     let n = c.pillars-count.result in
     let h : c.loop-p.p < n = search rules in
     let k : n ≤ length c.links.result.now = search rules in
@@ -24,8 +24,8 @@ pub loop-p-preserved : goal.loop-p-preserved
 loop-p-preserved c =
     let n = c.pillars-count.result in
     let h : c.loop-p.p < n = search rules in
-    row_more (price_by c.args.plan.now.force c.args.stand.now) c.loop-p.best _ c.loop-p.p n c.dearest-link-best.result h c.loop-p.invariant
-    (rw (sym c.pillars-count.ensures) at c.dearest-link-best.ensures)
+    row_more (price_by c.args.plan.now.force c.args.stand.now) c.loop-p.best _ c.loop-p.p n c.dearest_link-best.result h c.loop-p.invariant
+    (rw (sym c.pillars-count.ensures) at c.dearest_link-best.ensures)
 
 pub returns : goal.returns
 returns c =

@@ -16,7 +16,7 @@ loop-p-preserved c =
     let h : p < n = search rules in
     let k : n ≤ length c.args.mast.now.feeders = search rules in
     feeder_more (price_by F c.args.stand.now) c.loop-p.best _ n c.args.m p c.price.result c.dearer-best.result h c.loop-p.invariant c.dearer-best.ensures
-    (feeder_priced F c.args.stand.now c.args.m p c.price.result c.feeder-length-length.result c.args.mast.now _ c.requires.0 (front_at c.args.mast.now.feeders n p _ new_terms h k) c.price.ensures c.feeder-length-length.ensures)
+    (feeder_priced F c.args.stand.now c.args.m p c.price.result c.feeder_length-length.result c.args.mast.now _ c.requires.0 (front_at c.args.mast.now.feeders n p _ new_terms h k) c.price.ensures c.feeder_length-length.ensures)
 
 pub returns : goal.returns
 returns c =

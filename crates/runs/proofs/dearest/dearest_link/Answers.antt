@@ -22,7 +22,7 @@ loop-q-preserved c =
     let k : n ≤ length c.args.row.now = search rules in
     elim c.if-p-q.branch [
       | then-p-q v ↦ link_more of c.loop-q.best _ n p q v.price.result c.if-p-q.best h v.if-p-q.true c.loop-q.invariant (search rules)
-          (link_priced F w p q v.price.result v.link-length.result c.args.row.now _ v.if-p-q.true c.requires.0 (front_at c.args.row.now n q _ new_terms h k) v.price.ensures (v.link-length.ensures F))
+          (link_priced F w p q v.price.result v.link_length.result c.args.row.now _ v.if-p-q.true c.requires.0 (front_at c.args.row.now n q _ new_terms h k) v.price.ensures (v.link_length.ensures F))
       | else-p-q v ↦ link_past of c.loop-q.best _ n p q c.if-p-q.best v.if-p-q.false c.loop-q.invariant v.best-is
     ]
 

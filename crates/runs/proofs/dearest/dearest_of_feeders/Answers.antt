@@ -3,7 +3,7 @@ use Rattle.runs.specs.Order.{numbers_from}
 use Rattle.runs.specs.Dearest.{price_by}
 use Rattle.runs.proofs.DearestRun.{mast_more, mast_past, mast_none}
 use Rattle.runs.proofs.dearest.dearest_of_feeders.Goals as goal
-use Rattle.runs.proofs.dearest.dearest_of_feeders.Goals.{in-Some, in-default}
+use Rattle.runs.proofs.dearest.dearest_of_feeders.Goals.{in-Some, in_default}
 
 pub loop-m-init : goal.loop-m-init
 loop-m-init c = rw c.masts-mast-items.ensures.masts
@@ -14,8 +14,8 @@ loop-m-preserved c =
     let ps = numbers_from 0 c.args.plan.now.force.count in
     let masts = c.masts-mast-items.result.now in
     elim c.match-mast.branch [
-      | in-Some w ↦ mast_more of c.loop-m.best _ masts c.loop-m.m ps c.loop-m.invariant w.in-Some.mast c.match-mast.best c.loop-m-test.true w.in-Some.is (w.best-is ∙ w.dearest-feeder-best.ensures)
-      | in-default w ↦ mast_past of c.loop-m.best _ masts c.loop-m.m ps c.loop-m.invariant c.match-mast.best c.loop-m-test.true w.in-default.is w.best-is
+      | in-Some w ↦ mast_more of c.loop-m.best _ masts c.loop-m.m ps c.loop-m.invariant w.in-Some.mast c.match-mast.best c.loop-m-test.true w.in-Some.is (w.best-is ∙ w.dearest_feeder-best.ensures)
+      | in_default w ↦ mast_past of c.loop-m.best _ masts c.loop-m.m ps c.loop-m.invariant c.match-mast.best c.loop-m-test.true w.in_default.is w.best-is
     ]
 
 pub returns : goal.returns

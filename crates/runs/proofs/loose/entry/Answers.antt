@@ -2,7 +2,7 @@ use Rattle.std.proofs.Common.{below_more}
 use Rattle.std.proofs.lemmas.Bool.{both_ways}
 use Rattle.runs.proofs.Loosening.{standing_feeds, no_mast_feeds, none_feeds}
 use Rattle.runs.proofs.loose.entry.Goals as goal
-use Rattle.runs.proofs.loose.entry.Goals.{in-Some+else-feeder, in-default}
+use Rattle.runs.proofs.loose.entry.Goals.{in-Some+else-feeder, in_default}
 
 pub returns-then-feeder : goal.returns-then-feeder
 returns-then-feeder c =
@@ -20,7 +20,7 @@ loop-mast-preserved c =
     below_more _ _ c.loop-mast.invariant
     (elim c.match-mast.branch [
       | in-Some+else-feeder w ↦ λ f. both_ways w.of-feeder.result.yes w.if-feeder.false ((standing_feeds F masts.result.now masts.ensures.masts p m w.in-Some.mast w.of-feeder.result w.in-Some.is w.of-feeder.ensures).1 f)
-      | in-default w ↦ no_mast_feeds F masts.result.now masts.ensures.masts p m w.in-default.is
+      | in_default w ↦ no_mast_feeds F masts.result.now masts.ensures.masts p m w.in_default.is
     ])
 
 pub returns : goal.returns

@@ -9,11 +9,11 @@ pub returns : goal.returns
 returns c =
     let F = c.args.plan.now.force in
     let first = c.entries.new.first in
-    let t = c.best-chains.new in
+    let t = c.best_chains.new in
     let entries : length first ≡ F.count = omega arith in
-    let table = c.link-rows-links.result in
+    let table = c.link_rows-links.result in
     let n = c.pillars-n.result in
     let many : n ≤ length table = search rules in
     lowest_found F (value_at no_tie first) (run_at no_tie (take (n - 0) table)) (rw entries at c.entries.ensures)
-    (λ p q u v. front_row table n p q no_tie (omega (arith, c.pillars-n.ensures)) many ∙ c.link-rows-links.ensures p q u v)
-    (value_at no_tie t.best) (pillar_at t.before) (rw entries at c.in-Ok.ensures.1) (length t.best) (omega arith) c.first-untied.result c.first-untied.ensures
+    (λ p q u v. front_row table n p q no_tie (omega (arith, c.pillars-n.ensures)) many ∙ c.link_rows-links.ensures p q u v)
+    (value_at no_tie t.best) (pillar_at t.before) (rw entries at c.in-Ok.ensures.1) (length t.best) (omega arith) c.first_untied.result c.first_untied.ensures
