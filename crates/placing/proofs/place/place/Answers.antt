@@ -7,37 +7,37 @@ use Rattle.placing.proofs.FixedPrices.{some_run}
 use Rattle.placing.proofs.Leveled.{clash_refuses, placed_at}
 use Rattle.placing.proofs.Once.{place_once}
 use Rattle.placing.proofs.place.place.Goals as goal
-use Rattle.placing.proofs.place.place.Goals.{After-write-halves}
+use Rattle.placing.proofs.place.place.Goals.{After-write_halves}
 
-pub returns-in-default : goal.returns-in-default
-returns-in-default c =
+pub returns-in_default : goal.returns-in_default
+returns-in_default c =
     let F = c.args.plan.now.force in
     let before = c.args.list.now in
-    let ready = c.in-ok-feet.ensures in
-    let clash = subst (SettledFrom F _) c.in-default.is c.find-level-settled.ensures.settled_from in
+    let ready = c.in_ok-feet.ensures in
+    let clash = subst (SettledFrom F _) c.in_default.is c.find_level-settled.ensures.settled_from in
     let room : 2 * F.count ≤ length before = omega (arith, ready.1, c.pillars-count.ensures) in
-    let step : PlaceStep F before (Err _) before = (refl, inr (ready.0, room, clash_refuses F c.in-default.field-0 clash, refl)) in
+    let step : PlaceStep F before (Err _) before = (refl, inr (ready.0, room, clash_refuses F c.in_default.field-0 clash, refl)) in
     record { step = step; once = λ other after s. place_once F before (Err _) other before after step s }
 
 pub unreachable-requires : goal.unreachable-requires
 unreachable-requires c =
     let F = c.args.plan.now.force in
-    some_run F c.in-ok-feet.ensures.0.0 c.args.plan.now.counted.0 c.in-default-dearest.ensures
+    some_run F c.in_ok-feet.ensures.0.0 c.args.plan.now.counted.0 c.in_default-dearest.ensures
 
 -- the sites found, placed at the level that their dearest run has
-placed : (c : After-write-halves) → (c.in-Some.top.cents ≤ 3000000000) × Placed c.args.plan.now.force c.in-Some.top.cents (spots_of (take (c.pillars-count.result - 0) c.sites-of-sites.result))
+placed : (c : After-write_halves) → (c.in-Some.top.cents ≤ 3000000000) × Placed c.args.plan.now.force c.in-Some.top.cents (spots_of (take (c.pillars-count.result - 0) c.sites_of-sites.result))
 placed c =
     let F = c.args.plan.now.force in
-    let S = c.find-level-settled.ensures in
+    let S = c.find_level-settled.ensures in
     let settled = subst (SettledFrom F S.start) c.in-Level.is S.settled_from in
-    let many : c.pillars-count.result ≤ length c.sites-of-sites.result = search rules in
-    let is = placed_at F S.start c.in-Level.level c.find-level-settled.result.fixed c.in-Level.below c.in-Level.positions c.sites-of-sites.result c.pillars-count.result c.in-Some.top.cents
-    S.dearest_fixed settled.1 settled.2 c.pillars-count.ensures many c.sites-of-sites.ensures c.in-Some.ensures.0 in
+    let many : c.pillars-count.result ≤ length c.sites_of-sites.result = search rules in
+    let is = placed_at F S.start c.in-Level.level c.find_level-settled.result.fixed c.in-Level.below c.in-Level.positions c.sites_of-sites.result c.pillars-count.result c.in-Some.top.cents
+    S.dearest_fixed settled.1 settled.2 c.pillars-count.ensures many c.sites_of-sites.ensures c.in-Some.ensures.0 in
     (omega (arith, is.0, settled.0), is.1)
 
-pub overflow-cast-result : goal.overflow-cast-result
-overflow-cast-result c =
-    let h = (placed (goal.at.overflow-cast-result c).After-write-halves).0 in
+pub overflow_cast-result : goal.overflow_cast-result
+overflow_cast-result c =
+    let h = (placed (goal.at.overflow_cast-result c).After-write_halves).0 in
     search rules
 
 pub returns : goal.returns
@@ -45,20 +45,20 @@ returns c =
     let F = c.args.plan.now.force in
     let before = c.args.list.now in
     let n = c.pillars-count.result in
-    let P = spots_of (take (n - 0) c.sites-of-sites.result) in
-    let ready = c.in-ok-feet.ensures in
+    let P = spots_of (take (n - 0) c.sites_of-sites.result) in
+    let ready = c.in_ok-feet.ensures in
     let room : 2 * F.count ≤ length before = omega (arith, ready.1, c.pillars-count.ensures) in
-    let all : length (take (n - 0) c.sites-of-sites.result) ≡ F.count = search rules in
-    let step : PlaceStep F before (Ok c.in-Some.top.cents) c.write-halves.new.list = (
+    let all : length (take (n - 0) c.sites_of-sites.result) ≡ F.count = search rules in
+    let step : PlaceStep F before (Ok c.in-Some.top.cents) c.write_halves.new.list = (
       ready.0,
       room,
-      (P, (placed (goal.at.returns c).After-write-halves).1, c.write-halves.ensures ∙ ap (λ k. halves_of P ++ drop (2 * k) before) all),
+      (P, (placed (goal.at.returns c).After-write_halves).1, c.write_halves.ensures ∙ ap (λ k. halves_of P ++ drop (2 * k) before) all),
     ) in
-    record { step = step; once = λ other after s. place_once F before (Ok c.in-Some.top.cents) other c.write-halves.new.list after step s }
+    record { step = step; once = λ other after s. place_once F before (Ok c.in-Some.top.cents) other c.write_halves.new.list after step s }
 
-pub returns-in-err-feet : goal.returns-in-err-feet
-returns-in-err-feet c =
+pub returns-in_err-feet : goal.returns-in_err-feet
+returns-in_err-feet c =
     let F = c.args.plan.now.force in
     let before = c.args.list.now in
-    let step : PlaceStep F before (place_told c.from-residual.result) before = search rules in
-    record { step = step; once = λ other after s. place_once F before (place_told c.from-residual.result) other before after step s }
+    let step : PlaceStep F before (place_told c.from_residual.result) before = search rules in
+    record { step = step; once = λ other after s. place_once F before (place_told c.from_residual.result) other before after step s }

@@ -6,8 +6,8 @@ use Rattle.placing.proofs.settle.settle.Goals as goal
 pub jumps-init : goal.jumps-init
 jumps-init c = (omega arith, c.requires.bounded, refl)
 
-pub fit-at-requires : goal.fit-at-requires
-fit-at-requires c =
+pub fit_at-requires : goal.fit_at-requires
+fit_at-requires c =
     let F = c.args.plan.now.force in
     record {
       points = c.requires.points;
@@ -17,13 +17,13 @@ fit-at-requires c =
 pub returns-in-Ok : goal.returns-in-Ok
 returns-in-Ok c = (c.jumps.invariant.1, c.jumps.invariant.2, c.in-Ok.ensures)
 
-pub raise-over-requires : goal.raise-over-requires
-raise-over-requires c = record { short = c.in-Err.ensures; bounded = c.jumps.invariant.1 }
+pub raise_over-requires : goal.raise_over-requires
+raise_over-requires c = record { short = c.in-Err.ensures; bounded = c.jumps.invariant.1 }
 
 pub jumps-smaller : goal.jumps-smaller
-jumps-smaller c = let r = c.in-Ok-raise-over.ensures in omega (arith, r.0, r.1)
+jumps-smaller c = let r = c.in-Ok-raise_over.ensures in omega (arith, r.0, r.1)
 
 pub jumps-preserved : goal.jumps-preserved
 jumps-preserved c =
-    let r = c.in-Ok-raise-over.ensures in
+    let r = c.in-Ok-raise_over.ensures in
     (omega (arith, r.0, c.jumps.invariant.0), r.1, (omega (arith, r.0, c.jumps.invariant.0), r.2))

@@ -6,7 +6,7 @@ use Rattle.placing.proofs.solve.find_level.Goals as goal
 pub unreachable-requires : goal.unreachable-requires
 unreachable-requires c =
     let F = c.args.plan.now.force in
-    some_run F (some_stands F c.args.feet c.requires) c.args.plan.now.counted.0 c.in-default.ensures
+    some_run F (some_stands F c.args.feet c.requires) c.args.plan.now.counted.0 c.in_default.ensures
 
 pub settle-settled-requires : goal.settle-settled-requires
 settle-settled-requires c =

@@ -8,8 +8,8 @@ use Rattle.placing.proofs.tables.feeder_rows.Goals as goal
 pub loop-m-preserved : goal.loop-m-preserved
 loop-m-preserved c =
     let F = c.args.plan.now.force in
-    rows_more (λ k p. mast_reach (mast_at F k) c.args.level p) no_steps F.count c.loop-m.rows c.loop-m.m c.feeder-row.result
-    (omega arith) c.loop-m.invariant c.feeder-row.ensures
+    rows_more (λ k p. mast_reach (mast_at F k) c.args.level p) no_steps F.count c.loop-m.rows c.loop-m.m c.feeder_row.result
+    (omega arith) c.loop-m.invariant c.feeder_row.ensures
 
 pub returns : goal.returns
 returns c m p h k = c.loop-m.invariant m (omega (arith, c.loop-m-test.false)) p k
