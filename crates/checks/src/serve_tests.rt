@@ -26,7 +26,7 @@ fn later_bytes_of_the_buffer_stay(rt: HostRuntime) {
     let mut plan = Plan::new();
     let mut out = [7; 512];
     assert!(rt; !lacks_room(serve(&mut plan, b"010CF3", &mut out)));
-    assert!(rt; &out[0..7] == b"817F\n\x07\x07");
+    assert!(rt; &out[0..7] == b"817F\n\x07\x07".as_slice());
     assert_eq!(rt; plan.pillars(), 12);
 }
 
@@ -40,6 +40,6 @@ fn an_input_is_served_up_to_its_greatest_length(rt: HostRuntime) -> Result<(), F
     assert_eq!(rt; served.len(), 9 * MOST_SERVED);
     input.push(b'\n')?;
     let refused = serve_input(rt.alloc(), input.as_slice())?;
-    assert!(rt; refused.as_slice() == b"8210006E\n");
+    assert!(rt; refused.as_slice() == b"8210006E\n".as_slice());
     Ok(())
 }

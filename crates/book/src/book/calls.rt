@@ -44,7 +44,7 @@ impl Book {
         ensures { PlaceMade self.old list.old result self.new list.new }
     {
         let room = list.len();
-        let mut sites = Vec::from_slice(self.pages.allocator(), list)?;
+        let mut sites = Vec::from_slice(*self.pages.allocator(), list)?;
         self.pages.reserve(1)?;
         let answer = place(&self.plan, list);
         sites.copy_from_slice(list);
@@ -61,7 +61,7 @@ impl Book {
         ensures { WhyMade self.old list.old result self.new list.new }
     {
         let room = list.len();
-        let mut pillars = Vec::from_slice(self.pages.allocator(), list)?;
+        let mut pillars = Vec::from_slice(*self.pages.allocator(), list)?;
         self.pages.reserve(1)?;
         let answer = why(&self.plan, list);
         pillars.copy_from_slice(list);

@@ -3,7 +3,7 @@ use Rattle.book.proofs.book.Book.pages.Goals as goal
 
 pub returns : goal.returns
 returns c = record {
-  value = c.as-slice.ensures.value;
+  value = c.as_slice.ensures.value;
   whole = c.args.self.now.whole;
   promise = book_holds _ _ c.args.self.now.whole;
 }

@@ -4,19 +4,19 @@ use Rattle.book.specs.Pages.{asked_on}
 use Rattle.book.specs.Kept.{pages_of}
 use Rattle.book.proofs.Grown.{pages_more, complete_more}
 use Rattle.book.proofs.book.Book.why.Goals as goal
-use Rattle.book.proofs.book.Book.why.Goals.{After-push-reserved, at·returns}
+use Rattle.book.proofs.book.Book.why.Goals.{After-push_reserved, at-returns}
 
 -- the pages with the call's
-grown : (c : After-push-reserved) → pages_of (vec_items c.push-reserved.new.self)
+grown : (c : After-push_reserved) → pages_of (vec_items c.push_reserved.new.self)
     ≡ pages_of (vec_items c.args.self.now.pages) ++ (asked_on (length c.args.list.now) (why_told c.why-answer.result) c.why-answer.new.list ∷ [])
 grown c =
-    pages_more _ _ _ _ _ c.reserve.ensures.items c.push-reserved.ensures.items
-    (ap (asked_on (length c.args.list.now) (why_told c.why-answer.result)) c.copy-from-slice.ensures.items)
+    pages_more _ _ _ _ _ c.reserve.ensures.items c.push_reserved.ensures.items
+    (ap (asked_on (length c.args.list.now) (why_told c.why-answer.result)) c.copy_from_slice.ensures.items)
 
-pub invariant-of-self-2 : goal.invariant-of-self-2
-invariant-of-self-2 c =
-    (complete_more _ _ _ _ _ c.args.self.now.whole (grown c) refl (c.args.list.now, refl, c.why-answer.ensures.step), tt)
+pub invariant_of-self-2 : goal.invariant_of-self-2
+invariant_of-self-2 c =
+    record { whole = complete_more _ _ _ _ _ c.args.self.now.whole (grown c) refl (c.args.list.now, refl, c.why-answer.ensures.step) }
 
 pub returns : goal.returns
 returns c =
-    (c.why-answer.ensures.step, record { page_added = grown (at·returns c).After-push-reserved; force_after = refl })
+    (c.why-answer.ensures.step, record { page_added = grown (at-returns c).After-push_reserved; force_after = refl })
