@@ -10,7 +10,7 @@ use Rattle.placing.specs.declared.answer.Reason.{Reason}
 use Rattle.placing.specs.declared.answer.Reason.TheVariants.{Floor, Fixed, Chain, Clash}
 use Rattle.placing.specs.Steps.{Bars, Placed, halves_of, PlaceStep, Reasoned, count_told, WhyStep}
 use Rattle.runs.proofs.Ruling.{clash_none}
-use Rattle.book.specs.Pages.{SitePage, edited_by, placed_on, asked_on, HonestPage, after_page, in_force_from, HonestFrom, Complete}
+use Rattle.book.specs.Pages.{SitePage, edited_by, placed_on, asked_on, HonestPage, after_page, in_force_from, HonestFrom}
 use Rattle.book.specs.Promise.{sites_in, PlaceHolds, IsClash, FartherThanLimits, WhyHolds, PageHolds, SiteBook}
 
 -- a placing is read back from its halves

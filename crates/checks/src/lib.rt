@@ -1,4 +1,5 @@
 // Examples of what the crates do, each proved safe and then run.
+#![tactic(auto)]
 
 #[cfg(test)]
 mod frame_tests;

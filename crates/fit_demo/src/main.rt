@@ -1,4 +1,6 @@
 // Fits a handful of small networks, searches best chains in two measures, and prints what it found.
+#![tactic(auto)]
+
 mod networks;
 mod show;
 

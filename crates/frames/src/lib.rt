@@ -1,4 +1,5 @@
 // Lines and frames: an input cut into lines, a line read as a call, calls and answers written as lines.
+#![tactic(auto)]
 
 pub mod answer;
 pub mod bytes;

@@ -1,9 +1,8 @@
 -- Best chains on a line are the highest places, or a pillar that is too low gives a tight chain. No code is named here. Assumes nothing.
-use Rattle.std.proofs.Common.{◌≡◌, ℕ, ◌+◌, ◌-◌, ◌^◌, ◌<◌, ◌≤◌, true, List, [], ◌∷◌, reverse, sym, refl, ap, ◌∙◌, inl, inr, arith}
+use Rattle.std.proofs.Common.{◌≡◌, ℕ, ◌+◌, ◌^◌, ◌<◌, ◌≤◌, true, List, [], ◌∷◌, reverse, sym, refl, ap, ◌∙◌, inl, inr, arith}
 use Rattle.std.specs.List.{AllByRecursion as All}
 use Rattle.chains.specs.Measures.{add_steps, fewer}
 use Rattle.chains.specs.Chains.{chain_value, Chain, Different, Leads, BestFound}
-use Rattle.chains.specs.Along as Along
 use Rattle.chains.specs.Along.{value_onward, last_of}
 use Rattle.chains.specs.StepsLaws.{steps_laws}
 use Rattle.chains.proofs.Forward.{best_to}

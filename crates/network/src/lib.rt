@@ -1,4 +1,6 @@
 // Fixed points, pillars and the reaches between them: the greatest positions of the pillars, or a chain that is too short.
+#![tactic(auto)]
+
 pub mod answer;
 mod axis;
 pub mod fitting;

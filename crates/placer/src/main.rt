@@ -1,4 +1,5 @@
 // The program: standard input served line by line to standard output.
+#![tactic(auto)]
 
 use service::run::{MOST_SERVED, serve_input};
 use std::io::{Read, Write};

@@ -1,5 +1,5 @@
 -- The greatest fixed price, from which the search for the level begins.
-use Rattle.std.proofs.Common.{◌≡◌, ℕ, ◌<◌, ◌≤◌, true, not, ◌&&◌, leb, [], length, Some, sym, ◌∙◌, subst, arith}
+use Rattle.std.proofs.Common.{◌≡◌, ℕ, ◌<◌, ◌≤◌, true, not, ◌&&◌, leb, [], Some, sym, ◌∙◌, subst, arith}
 use Rattle.std.specs.List.{AllByRecursion as All}
 use Rattle.std.proofs.ByRecursion.{All-weaker}
 use Rattle.std.proofs.lemmas.Bool.{and_parts, leb-true}
@@ -9,7 +9,6 @@ use Rattle.yard.specs.declared.force.InForce.{InForce}
 use Rattle.yard.specs.declared.force.Terms.{Terms}
 use Rattle.runs.specs.Spots.{SomeMast}
 use Rattle.runs.specs.Order.{runs_of, run_terms, FirstWith}
-use Rattle.runs.specs.Levels.{greatest}
 use Rattle.runs.specs.Pricing.{price_at}
 use Rattle.runs.specs.Dearest.{price_by, IsDearest}
 use Rattle.runs.specs.declared.dearest.Priced.{Priced}

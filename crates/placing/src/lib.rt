@@ -1,4 +1,5 @@
 // Placing a plan's pillars, and why no lower level exists.
+#![tactic(auto)]
 
 pub mod answer;
 mod chain;

@@ -1,4 +1,6 @@
 // Entries in order: the best of them are kept in slots that a caller lends.
+#![tactic(auto)]
+
 pub mod list;
 pub mod order;
 

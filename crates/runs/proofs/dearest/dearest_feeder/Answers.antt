@@ -1,4 +1,4 @@
-use Rattle.std.proofs.Common.{◌-◌, ◌<◌, ◌≤◌, length, rules}
+use Rattle.std.proofs.Common.{◌<◌, ◌≤◌, length, rules}
 use native.Mathlib.Nat.{sub-zero}
 use Rattle.yard.specs.Force.{new_terms}
 use Rattle.runs.specs.Dearest.{price_by}

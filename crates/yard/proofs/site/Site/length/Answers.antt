@@ -1,4 +1,4 @@
-use Rattle.std.proofs.Common.{◌≡◌, max, sym, ◌∙◌, w32, SFits, rules}
+use Rattle.std.proofs.Common.{◌≡◌, sym, ◌∙◌, w32, SFits, rules}
 use Rattle.std.proofs.lemmas.Int.{to_z-of_z}
 use Rattle.yard.specs.Grid.{distance}
 use Rattle.yard.proofs.Readings.{larger_gap}
