@@ -1,10 +1,10 @@
 #!/usr/bin/env python3
 """Compare `placer` with the reference on streams of random calls, damaged lines, random yards and inputs around the size limit.
 
-Run from the repository's root after `rt check placer`. Exit status 1 where an output differs. Where Why names a chain, each chain
+Run from the repository's root after an `rt run` in crates/placer, which builds it. Exit status 1 where an output differs. Where Why names a chain, each chain
 that is right is accepted; everything else must be equal byte for byte.
 
-    compare.py                      compare target/bin/placer
+    compare.py                      compare crates/placer/out/placer
     compare.py program argument...  compare another program, such as `python3 tools/reference.py`
     compare.py --stream number      write that stream to standard output and compare nothing
 """
@@ -93,7 +93,7 @@ def sort(answer):
     """What sort of answer to Place or Why this is, by its first line."""
     data = bytes.fromhex(answer)
     if data[0] == 0x82:
-        return {13: "no mast", 14: "loose pillar", 15: "no placing"}[data[1]]
+        return {4: "not served", 13: "no mast", 14: "loose pillar", 15: "no placing"}[data[1]]
     if data[0] == 0x83:
         return "Level" if any(data[1:5]) else "Level 0"
     return {0x85: "Floor", 0x86: "Fixed", 0x87: "Chain", 0x88: "Clash"}[data[0]]
@@ -327,7 +327,7 @@ def main(arguments):
     count = differ = 0
     sorts = collections.Counter()
     for data in streams():
-        ran = subprocess.run(arguments or ["target/bin/placer"], input=data, capture_output=True)
+        ran = subprocess.run(arguments or ["crates/placer/out/placer"], input=data, capture_output=True)
         fault = first_fault(data, ran.stdout, sorts)
         if ran.returncode != 0:
             fault = f"exit status {ran.returncode}"

@@ -9,7 +9,7 @@ import math
 import sys
 
 KINDS = {1: 1, 2: 9, 3: 1, 4: 12, 5: 12, 6: 0, 7: 0, 8: 1, 9: 2}  # kind: bytes of fields
-SERVED = {1, 2, 3, 4, 5, 6, 7}
+SERVED = {1, 2, 3, 4, 5}  # what `placer` serves; Place and Why, 6 and 7, are known here and wait for it
 NO_LIMIT = 0xFFFFFFFF
 NEW = (0, 0, None)  # rate, fixed price, limit
 FEEDER, LINK = 0, 1

@@ -1,8 +1,6 @@
-"""Lines for `placer`: small yards, each placed and asked why, after the lines that crates/placer/stdin begins with.
+"""Lines for `placer`: small yards, each placed and asked why, for the time when it serves Place and Why.
 
     python3 tools/vectors.py > lines
-
-The stored input of `placer` is 87 lines about edits and frames, and then these lines, the last without its line feed.
 """
 from full_yard import line, word
 
@@ -37,7 +35,7 @@ ASK = [line(6), line(7)]
 TEN_APART = [mast(0, 0, 0), mast(1, 10, 0)]
 
 YARDS = {
-    # the session of the README
+    # two masts ten steps apart
     "two_rates": [opened(1), *TEN_APART, feeder(0, 0, 3), feeder(1, 0, 2), *ASK],
     # the middle of a square is better than any crossing
     "four_corners": [opened(1), *[mast(m, m % 2, m // 2) for m in range(4)], *[feeder(m, 0, 1) for m in range(4)], *ASK],

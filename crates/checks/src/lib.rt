@@ -2,6 +2,8 @@
 #![tactic(auto)]
 
 #[cfg(test)]
+mod book_tests;
+#[cfg(test)]
 mod frame_tests;
 #[cfg(test)]
 mod plan_tests;

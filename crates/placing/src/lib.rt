@@ -7,6 +7,7 @@ pub mod fault;
 mod feet;
 mod fits;
 pub mod place;
+pub mod pricing;
 mod ready;
 mod settle;
 mod sites;

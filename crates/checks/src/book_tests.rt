@@ -1,0 +1,95 @@
+use book::book::Book;
+use placing::answer::Reason;
+use placing::fault::{Barred, PlaceFault};
+use std::alloc::AllocError;
+use std::test::Fail;
+use yard::edit::{Edit, EntryTerms, NO_LIMIT};
+
+fn fed(book: &mut Book, mast: u8, rate: u16, limit: u32) -> Result<(), AllocError> {
+    let terms = EntryTerms {
+        rate,
+        fixed: 0,
+        limit,
+    };
+    let _ = book.edit(Edit::Feeder {
+        mast,
+        pillar: 0,
+        terms,
+    })?;
+    Ok(())
+}
+
+// Two masts ten steps apart, and one pillar, as on a new plan.
+fn ten_apart(book: &mut Book) -> Result<(), AllocError> {
+    let _ = book.edit(Edit::Raise {
+        mast: 0,
+        x: 0,
+        y: 0,
+    })?;
+    let _ = book.edit(Edit::Raise {
+        mast: 1,
+        x: 10,
+        y: 0,
+    })?;
+    Ok(())
+}
+
+#[test]
+fn a_pillar_is_placed_between_two_rates(rt: HostRuntime) -> Result<(), Fail> {
+    let mut book = Book::new(rt.alloc());
+    ten_apart(&mut book)?;
+    fed(&mut book, 0, 3, NO_LIMIT)?;
+    fed(&mut book, 1, 2, NO_LIMIT)?;
+    let mut halves = [7; 3];
+    let level = match book.place(&mut halves)? {
+        Ok(level) => level,
+        Err(_) => 0,
+    };
+    assert_eq!(rt; level, 12);
+    assert!(rt; halves == [8, 0, 7]);
+    let mut pillars = [7; 2];
+    let told = match book.why(&mut pillars)? {
+        Ok(Reason::Chain(chain)) => (chain.from, chain.to, chain.gap, chain.total, chain.count),
+        _ => (0, 0, 0, 0, 0),
+    };
+    assert_eq!(rt; told, (0, 1, 10, 8, 1));
+    assert!(rt; pillars == [0, 7]);
+    assert_eq!(rt; book.pages().len(), 6);
+    Ok(())
+}
+
+#[test]
+fn limits_that_clash_are_told(rt: HostRuntime) -> Result<(), Fail> {
+    let mut book = Book::new(rt.alloc());
+    ten_apart(&mut book)?;
+    fed(&mut book, 0, 0, 4)?;
+    fed(&mut book, 1, 0, 5)?;
+    let mut halves = [7; 2];
+    let unkept = match book.place(&mut halves)? {
+        Err(PlaceFault::Unkept) => true,
+        _ => false,
+    };
+    assert!(rt; unkept);
+    assert!(rt; halves == [7, 7]);
+    let mut pillars = [7; 1];
+    let total = match book.why(&mut pillars)? {
+        Ok(Reason::Clash(chain)) => chain.total,
+        _ => 0,
+    };
+    assert_eq!(rt; total, 9);
+    Ok(())
+}
+
+#[test]
+fn a_refused_call_has_its_page(rt: HostRuntime) -> Result<(), Fail> {
+    let mut book = Book::new(rt.alloc());
+    let mut halves = [7; 2];
+    let no_mast = match book.place(&mut halves)? {
+        Err(PlaceFault::Barred(Barred::NoMast)) => true,
+        _ => false,
+    };
+    assert!(rt; no_mast);
+    assert_eq!(rt; book.pages().len(), 1);
+    assert_eq!(rt; book.plan().pillars(), 1);
+    Ok(())
+}
