@@ -11,7 +11,8 @@ turns whole words alone:
 - behind a dot only what the third column calls a `field`, and in an Answers.antt or Invariants.antt never what
   stands right behind the record of a goal (c, l, w, v or g), since those names are made by Rattle.
 
-A module's file moves with its name.
+A module's file moves with its name. Where port.py wrote `AllByRecursion as All`, which `rt ci` refuses in specs/,
+the word keeps the library's name AllByRecursion.
 """
 import os
 import re
@@ -65,7 +66,23 @@ def code(text, mark, goals=False):
     return "\n".join(out)
 
 
+ALL = re.compile(r"(?<![\w'◌.-])All(?![\w'◌.-])")
+
+
+def one_name(text, mark):
+    """AllByRecursion under its own name, in a file of code that has it as All."""
+    if "AllByRecursion as All" not in text:
+        return text
+    out = []
+    for line in text.replace("AllByRecursion as All", "AllByRecursion").split("\n"):
+        m = re.search(rf"(^|\s){mark}", line)
+        at = m.start() if m else len(line)
+        out.append(ALL.sub("AllByRecursion", line[:at]) + line[at:])
+    return "\n".join(out)
+
+
 def turned(path, text):
+    text = one_name(text, "--" if path.endswith(".antt") else "//")
     if path.endswith(".antt"):
         return code(text, "--", os.path.basename(path) in ("Answers.antt", "Invariants.antt"))
     if path.endswith((".rt", ".edit")):

@@ -2,7 +2,7 @@
 use Rattle.std.proofs.Common.{◌≡◌, ℕ, ◌<◌, Bool, List, [], ◌∷◌, reverse, sym, refl, ap, ◌∙◌, subst, arith}
 use mathlib.Core.List.{reverse_aux}
 use lib.ListN.{length-reverse}
-use Rattle.std.specs.List.{AllByRecursion as All}
+use Rattle.std.specs.List.{AllByRecursion}
 use Rattle.chains.specs.Chains.{chain_value, Different, Leads, BestFound, ReadOut, pillar_at}
 use Rattle.chains.specs.Along.{value_onward, value_along, last_of, BestTo, BestWritten}
 use Rattle.chains.proofs.Reversed.{all_reversed, different_reversed}
@@ -13,7 +13,7 @@ module _ {M : Type 0} (op : M → M → M) (first : ℕ → M) (run : ℕ → �
   forward v [] ps = (v, ps, refl, refl, refl)
   forward v (u ∷ c) ps = forward u c (v ∷ ps)
 
-  backward : (P : ℕ → Type 0) (p : ℕ) (c ps : List ℕ) → All P (p ∷ c) → All P ps → (d : List ℕ) × (value_onward op run (chain_value op first run p c) p ps ≡ chain_value op first run (last_of p ps) d) × All P (last_of p ps ∷ d)
+  backward : (P : ℕ → Type 0) (p : ℕ) (c ps : List ℕ) → AllByRecursion P (p ∷ c) → AllByRecursion P ps → (d : List ℕ) × (value_onward op run (chain_value op first run p c) p ps ≡ chain_value op first run (last_of p ps) d) × AllByRecursion P (last_of p ps ∷ d)
   backward P p c [] h k = (c, refl, h)
   backward P p c (q ∷ ps) h k = backward P q (p ∷ c) ps (k.0, h) k.1
 
@@ -24,7 +24,7 @@ module _ {M : Type 0} (op : M → M → M) (first : ℕ → M) (run : ℕ → �
         start = f.0;
         rest = f.1;
         listed = written ∙ f.2;
-        within = subst (All (λ p. p < n)) f.2 (all_reversed (λ p. p < n) (v ∷ c) L.traced.chain);
+        within = subst (AllByRecursion (λ p. p < n)) f.2 (all_reversed (λ p. p < n) (v ∷ c) L.traced.chain);
         different = subst Different f.2 (different_reversed (v ∷ c) L.different);
         ends = f.4;
         worth = f.3 ∙ L.worth ∙ sym x_is;

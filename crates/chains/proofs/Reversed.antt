@@ -1,27 +1,27 @@
 -- What holds of the pillars of a list holds of them from the other end. Assumes nothing.
 use Rattle.std.proofs.Common.{ℕ, ◌≢◌, List, [], ◌∷◌, reverse, sym}
 use mathlib.Core.List.{reverse_aux}
-use Rattle.std.specs.List.{AllByRecursion as All}
+use Rattle.std.specs.List.{AllByRecursion}
 use Rattle.std.proofs.ByRecursion.{All-weaker}
 use Rattle.chains.specs.Chains.{Different}
 use Rattle.chains.proofs.State.{both_all}
 
-all_back : (P : ℕ → Type 0) (c ps : List ℕ) → All P c → All P ps → All P (reverse_aux c ps)
+all_back : (P : ℕ → Type 0) (c ps : List ℕ) → AllByRecursion P c → AllByRecursion P ps → AllByRecursion P (reverse_aux c ps)
 all_back P [] ps h k = k
 all_back P (u ∷ c) ps h k = all_back P c (u ∷ ps) h.1 (h.0, k)
 
 -- no pillar of c is one of ps
-different_back : (c ps : List ℕ) → Different c → Different ps → All (λ q. All (λ p. p ≢ q) ps) c → Different (reverse_aux c ps)
+different_back : (c ps : List ℕ) → Different c → Different ps → AllByRecursion (λ q. AllByRecursion (λ p. p ≢ q) ps) c → Different (reverse_aux c ps)
 different_back [] ps h k apart = k
 different_back (u ∷ c) ps h k apart =
-    let both = both_all (λ q. q ≢ u) (λ q. All (λ p. p ≢ q) ps) c h.0 apart.1 in
-    different_back c (u ∷ ps) h.1 (apart.0, k) (All-weaker (λ q. (q ≢ u) × All (λ p. p ≢ q) ps) (λ q. All (λ p. p ≢ q) (u ∷ ps)) (λ q b. (λ e. b.0 (sym e), b.1)) c both)
+    let both = both_all (λ q. q ≢ u) (λ q. AllByRecursion (λ p. p ≢ q) ps) c h.0 apart.1 in
+    different_back c (u ∷ ps) h.1 (apart.0, k) (All-weaker (λ q. (q ≢ u) × AllByRecursion (λ p. p ≢ q) ps) (λ q. AllByRecursion (λ p. p ≢ q) (u ∷ ps)) (λ q b. (λ e. b.0 (sym e), b.1)) c both)
 
-all_trivial : (c : List ℕ) → All (λ q. All (λ p. p ≢ q) []) c
+all_trivial : (c : List ℕ) → AllByRecursion (λ q. AllByRecursion (λ p. p ≢ q) []) c
 all_trivial [] = tt
 all_trivial (u ∷ c) = (tt, all_trivial c)
 
-pub all_reversed : (P : ℕ → Type 0) (c : List ℕ) → All P c → All P (reverse c)
+pub all_reversed : (P : ℕ → Type 0) (c : List ℕ) → AllByRecursion P c → AllByRecursion P (reverse c)
 all_reversed P c h = all_back P c [] h tt
 
 pub different_reversed : (c : List ℕ) → Different c → Different (reverse c)

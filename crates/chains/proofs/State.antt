@@ -1,6 +1,6 @@
 -- What the search keeps from turn to turn, over any lawful measure; no code is named here. Assumes nothing.
 use Rattle.std.proofs.Common.{◌≡◌, ℕ, ◌+◌, ◌<◌, ◌≤◌, Bool, true, false, cond, ◌≢◌, List, [], ◌∷◌, length, sym, ap, ◌∙◌, inl, inr, arith}
-use Rattle.std.specs.List.{AllByRecursion as All}
+use Rattle.std.specs.List.{AllByRecursion}
 use Rattle.std.proofs.ByRecursion.{All-weaker}
 use Rattle.std.proofs.lemmas.Bool.{cases_eq, cases_Bool, both_ways, cond-true, cond-false}
 use Rattle.chains.specs.Laws.{Laws}
@@ -9,8 +9,8 @@ use Rattle.chains.specs.Chains.{chain_value, Chain, Different, Told, BestFound}
 -- The chain that stands for `best v`: its earlier pillars are done, and with those that are not done, `left` of them, they are no more than n.
 pub record Way {M : Type 0} (op : M → M → M) (first : ℕ → M) (run : ℕ → ℕ → M) (n : ℕ) (best : ℕ → M) (before : ℕ → ℕ) (done : ℕ → Bool) (left : ℕ) (v : ℕ) : Type 0 where
   pub c : List ℕ
-  pub chain : All (λ p. p < n) c
-  pub finished : All (λ p. done p ≡ true) c
+  pub chain : AllByRecursion (λ p. p < n) c
+  pub finished : AllByRecursion (λ p. done p ≡ true) c
   pub different : Different (v ∷ c)
   pub short : length c + left ≤ n
   pub shorter : done v ≡ true → length c + left < n
@@ -24,11 +24,11 @@ pub record State {M : Type 0} (op : M → M → M) (leq : M → M → Bool) (fir
   pub entered : (v : ℕ) → v < n → leq (best v) (first v) ≡ true
 
 -- `before` may change at pillars that are not on the chain
-told_kept : (f g : ℕ → ℕ) (v : ℕ) (c : List ℕ) → g v ≡ f v → All (λ p. g p ≡ f p) c → Told f v c → Told g v c
+told_kept : (f g : ℕ → ℕ) (v : ℕ) (c : List ℕ) → g v ≡ f v → AllByRecursion (λ p. g p ≡ f p) c → Told f v c → Told g v c
 told_kept f g v [] e es t = e ∙ t
 told_kept f g v (u ∷ c) e es t = (e ∙ t.0, t.1, told_kept f g u c es.0 es.1 t.2)
 
-pub both_all : (P Q : ℕ → Type 0) (c : List ℕ) → All P c → All Q c → All (λ p. P p × Q p) c
+pub both_all : (P Q : ℕ → Type 0) (c : List ℕ) → AllByRecursion P c → AllByRecursion Q c → AllByRecursion (λ p. P p × Q p) c
 both_all P Q [] h k = tt
 both_all P Q (p ∷ c) h k = ((h.0, k.0), both_all P Q c h.1 k.1)
 
@@ -113,7 +113,7 @@ module _ {M : Type 0} {empty : M} {op : M → M → M} {leq : M → M → Bool} 
         | inr f ↦ rw (taken_best v h f) (laws.reflexive (op (best u) (run u v)))
       ]
 
-      befores : (c : List ℕ) → All (λ p. p < n) c → All (λ p. done p ≡ true) c → All (λ p. before' p ≡ before p) c
+      befores : (c : List ℕ) → AllByRecursion (λ p. p < n) c → AllByRecursion (λ p. done p ≡ true) c → AllByRecursion (λ p. before' p ≡ before p) c
       befores c h k = All-weaker (λ p. (p < n) × (done p ≡ true)) (λ p. before' p ≡ before p) (λ p b. kept_before p b.0 (settled p b.0 (still p b.1))) c (both_all (λ p. p < n) (λ p. done p ≡ true) c h k)
 
       keeps_way : (v : ℕ) → v < n → leq (best v) (op (best u) (run u v)) ≡ true → Way op first run n best' before' done' left' v

@@ -1,6 +1,6 @@
 -- Chains as they are read out, from the first pillar p on: p and the list of the further ones. Assumes nothing.
 use Rattle.std.specs.Prelude.{◌≡◌, ℕ, ◌<◌, ◌≤◌, Bool, true, List, [], ◌∷◌, ◌++◌, length, drop}
-use Rattle.std.specs.List.{AllByRecursion as All}
+use Rattle.std.specs.List.{AllByRecursion}
 use Rattle.chains.specs.Chains.{Different, PlanFits}
 
 -- the value x at p, joined with each run to the next pillar
@@ -21,11 +21,11 @@ pub record BestTo {M : Type 0} (op : M → M → M) (leq : M → M → Bool) (fi
   pub start : ℕ
   pub rest : List ℕ
   pub listed : pillars ≡ start ∷ rest
-  pub within : All (λ p. p < n) (start ∷ rest)
+  pub within : AllByRecursion (λ p. p < n) (start ∷ rest)
   pub different : Different (start ∷ rest)
   pub ends : last_of start rest ≡ v
   pub worth : value_along op first run start rest ≡ x
-  pub least : (p : ℕ) (ps : List ℕ) → All (λ q. q < n) (p ∷ ps) → last_of p ps ≡ v → leq x (value_along op first run p ps) ≡ true
+  pub least : (p : ℕ) (ps : List ℕ) → AllByRecursion (λ q. q < n) (p ∷ ps) → last_of p ps ≡ v → leq x (value_along op first run p ps) ≡ true
 
 -- a best chain to v is written at the head of a list, `count` pillars long, and what stood behind it stays
 pub record BestWritten {M : Type 0} (op : M → M → M) (leq : M → M → Bool) (first : ℕ → M) (run : ℕ → ℕ → M) (n v : ℕ) (x : M) (count : ℕ) (was list : List ℕ) : Type 0 where

@@ -1,7 +1,7 @@
 -- Chains of pillars, their values, and what a search for the best of them answers. Assumes nothing.
 -- A chain to a pillar v is given by the list of its earlier pillars, the nearest first: `v` and `u ∷ p ∷ []` stand for the chain that is entered at p and goes by u to v.
 use Rattle.std.specs.Prelude.{◌≡◌, ℕ, ◌+◌, ◌<◌, ◌≤◌, Bool, true, ◌≢◌, List, [], ◌∷◌, ◌++◌, reverse, length, drop, slice_index, slice_index_or}
-use Rattle.std.specs.List.{AllByRecursion as All}
+use Rattle.std.specs.List.{AllByRecursion}
 
 -- The value of a chain: of entering at its first pillar, joined with each run to the next one. `first p` is the value of entering at p, `run u v` that of the run between u and v.
 abbrev pub chain_value : {M : Type 0} → (M → M → M) → (ℕ → M) → (ℕ → ℕ → M) → ℕ → List ℕ → M
@@ -10,12 +10,12 @@ chain_value op first run v (u ∷ c) = op (chain_value op first run u c) (run u 
 
 -- every pillar of the chain is one of the n pillars
 abbrev pub Chain : ℕ → ℕ → List ℕ → Type 0
-Chain n v c = All (λ p. p < n) (v ∷ c)
+Chain n v c = AllByRecursion (λ p. p < n) (v ∷ c)
 
 -- no pillar stands twice
 abbrev pub Different : List ℕ → Type 0
 Different [] = Unit {0}
-Different (p ∷ ps) = All (λ q. q ≢ p) ps × Different ps
+Different (p ∷ ps) = AllByRecursion (λ q. q ≢ p) ps × Different ps
 
 -- `before` tells the chain: it holds the previous pillar of each pillar on it, and at the first one that pillar itself
 abbrev pub Told : (ℕ → ℕ) → ℕ → List ℕ → Type 0

@@ -1,6 +1,6 @@
 -- Every call comes back from its line: argued once over the widths of its fields.
 use Rattle.std.proofs.Common.{◌≡◌, ℕ, ◌+◌, ◌-◌, ◌*◌, ◌/◌, ◌%◌, ◌^◌, ◌<◌, ◌≤◌, true, false, cond, T, eqb, List, [], ◌∷◌, ◌++◌, map, length, get_or, drop, ℤ, pos, is_some, None, Ok, Err, Result, sym, refl, ap, ◌∙◌, subst, ⊎_elim, arith, lit<, lit≤, w32, SFits, to_z, of_z}
-use Rattle.std.specs.List.{AllByRecursion as All}
+use Rattle.std.specs.List.{AllByRecursion}
 use Rattle.std.proofs.lemmas.Int.{to_z-of_z, ints}
 use Rattle.std.proofs.lemmas.List.{same_from_push}
 use Rattle.std.proofs.ByRecursion.{All-push}
@@ -80,7 +80,7 @@ past_field (Half n) r = refl
 past_field (Word n) r = refl
 past_field (Signed z) r = refl
 
-fields_back : (fs : List Field) → All FieldFits fs → parsed (map width_of fs) (spelled fs) ≡ fs
+fields_back : (fs : List Field) → AllByRecursion FieldFits fs → parsed (map width_of fs) (spelled fs) ≡ fs
 fields_back [] h = refl
 fields_back (f ∷ fs) h =
     ap (λ g. g ∷ parsed (map width_of fs) (drop (size (width_of f)) (spelled (f ∷ fs)))) (field_back f (spelled fs) h.0)
@@ -152,7 +152,7 @@ same_call c d h k e =
 below : (n : ℕ) → n % 256 < 256
 below n = omega arith
 
-spelled_small : (fs : List Field) → All FieldFits fs → Small (spelled fs)
+spelled_small : (fs : List Field) → AllByRecursion FieldFits fs → Small (spelled fs)
 spelled_small [] h = tt
 spelled_small (Byte n ∷ fs) h = (h.0, spelled_small fs h.1)
 spelled_small (Half n ∷ fs) h = (below _, (below _, spelled_small fs h.1))

@@ -1,6 +1,6 @@
 -- A line read byte by byte, and a frame taken apart.
 use Rattle.std.proofs.Common.{◌≡◌, ℕ, suc, ◌+◌, ◌-◌, ◌*◌, ◌/◌, ◌%◌, ◌<◌, ◌≤◌, true, List, [], ◌∷◌, ◌++◌, length, get_or, take, drop, is_some, Ok, Err, sym, ap, ◌∙◌, subst, ⊎_elim, arith}
-use Rattle.std.specs.List.{AllByRecursion as All}
+use Rattle.std.specs.List.{AllByRecursion}
 use Rattle.std.proofs.lemmas.List.{take_more, take_all, append_assoc, length-take, get_or-take}
 use Rattle.std.proofs.ByRecursion.{All-push}
 use Rattle.std.proofs.lemmas.Bool.{cases_lt}
@@ -16,7 +16,7 @@ use Rattle.frames.proofs.Writing.{length-hex, hex_push}
 use Rattle.frames.proofs.Sums.{total_append}
 
 abbrev pub Small : List ℕ → Type 0
-Small = All (λ b. b < 256)
+Small = AllByRecursion (λ b. b < 256)
 
 -- the bytes so far have the digits of the line's front
 abbrev pub SoFar : List ℕ → ℕ → List ℕ → Type 0

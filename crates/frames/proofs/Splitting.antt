@@ -1,7 +1,7 @@
 -- An input cut at its first line feed, and what that says of its lines.
 use Rattle.std.proofs.Common.{◌≡◌, ℕ, ◌+◌, ◌-◌, ◌<◌, ◌⊎◌, List, [], ◌∷◌, ◌++◌, length, get_or, take, drop, sym, refl, ap, ◌∙◌, inl, inr, arith, take-append-drop, ne_eqb}
 use native.Mathlib.Nat.{sub-zero}
-use Rattle.std.specs.List.{AllByRecursion as All}
+use Rattle.std.specs.List.{AllByRecursion}
 use Rattle.std.proofs.lemmas.List.{drop_more, length-take, get_or-take}
 use Rattle.std.proofs.ByRecursion.{All-from_get_or}
 use Rattle.std.proofs.lemmas.Slice.{between_to_end}
@@ -22,11 +22,11 @@ cut s i h e before =
 pub uncut : (s : List ℕ) → 0 < length s → ((k : ℕ) → k < length s → get_or s k 0 ≡ 10 → ⊥) → FirstLine s s []
 uncut s some none = record { some_bytes = some; unbroken = All-from_get_or (λ b. b ≡ 10 → ⊥) s 0 none; whole = inr (refl, refl) }
 
-ended : (l rest : List ℕ) → All (λ b. b ≡ 10 → ⊥) l → lines_of (l ++ (10 ∷ rest)) ≡ l ∷ lines_of rest
+ended : (l rest : List ℕ) → AllByRecursion (λ b. b ≡ 10 → ⊥) l → lines_of (l ++ (10 ∷ rest)) ≡ l ∷ lines_of rest
 ended [] rest h = refl
 ended (b ∷ l) rest h = rw (ne_eqb b 10 h.0, ended l rest h.1)
 
-last_line : (l : List ℕ) → 0 < length l → All (λ b. b ≡ 10 → ⊥) l → lines_of l ≡ l ∷ []
+last_line : (l : List ℕ) → 0 < length l → AllByRecursion (λ b. b ≡ 10 → ⊥) l → lines_of l ≡ l ∷ []
 last_line [] s h = absurd (omega arith)
 last_line (b ∷ []) s h = rw (ne_eqb b 10 h.0)
 last_line (b ∷ a ∷ l) s h = rw (ne_eqb b 10 h.0) (ap (onto_first b) (last_line (a ∷ l) (omega arith) h.1))

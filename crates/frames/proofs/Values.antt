@@ -1,7 +1,7 @@
 -- Digits and their values.
 use Rattle.std.proofs.Common.{◌≡◌, ℕ, zero, suc, ◌+◌, ◌-◌, ◌*◌, ◌/◌, ◌%◌, ◌<◌, true, cond, List, [], ◌∷◌, length, get_or, is_some, Some, sym, refl, ap, ◌∙◌, arith}
 use Rattle.std.proofs.lemmas.Bool.Decides.{nat_tests}
-use Rattle.std.specs.List.{AllByRecursion as All}
+use Rattle.std.specs.List.{AllByRecursion}
 use Rattle.frames.specs.Digits.{digit_of, digit_char, hex}
 
 pub digit_low : (c d : ℕ) → digit_of c ≡ Some d → d < 16
@@ -30,7 +30,7 @@ pair_back c c' a b e f =
     (pair_small a b h k, ap digit_char (high_half a b k) ∙ digit_back c a e, ap digit_char (low_half a b k) ∙ digit_back c' b f)
 
 -- the digits of bytes are digits
-pub hex_digits : (bs : List ℕ) → All (λ b. b < 256) bs → (j : ℕ) → j < length (hex bs) → is_some (digit_of (get_or (hex bs) j 0)) ≡ true
+pub hex_digits : (bs : List ℕ) → AllByRecursion (λ b. b < 256) bs → (j : ℕ) → j < length (hex bs) → is_some (digit_of (get_or (hex bs) j 0)) ≡ true
 hex_digits [] h j l = absurd (omega arith)
 hex_digits (b ∷ bs) h zero l = ap is_some (char_digit (b / 16) (omega (arith, h.0)))
 hex_digits (b ∷ bs) h (suc zero) l = ap is_some (char_digit (b % 16) (omega arith))
@@ -48,12 +48,12 @@ unhex [] = []
 unhex (a ∷ []) = []
 unhex (a ∷ b ∷ r) = (16 * value a + value b) ∷ unhex r
 
-unhex-hex : (bs : List ℕ) → All (λ b. b < 256) bs → unhex (hex bs) ≡ bs
+unhex-hex : (bs : List ℕ) → AllByRecursion (λ b. b < 256) bs → unhex (hex bs) ≡ bs
 unhex-hex [] h = refl
 unhex-hex (b ∷ bs) h =
     let x : 16 * value (digit_char (b / 16)) + value (digit_char (b % 16)) ≡ b =
     ap (λ n. 16 * n + value (digit_char (b % 16))) (value_char (b / 16) (omega (arith, h.0))) ∙ ap (λ n. 16 * (b / 16) + n) (value_char (b % 16) (omega arith)) ∙ omega arith in
     rw (x, unhex-hex bs h.1)
 
-pub hex_same : (xs ys : List ℕ) → All (λ b. b < 256) xs → All (λ b. b < 256) ys → hex xs ≡ hex ys → xs ≡ ys
+pub hex_same : (xs ys : List ℕ) → AllByRecursion (λ b. b < 256) xs → AllByRecursion (λ b. b < 256) ys → hex xs ≡ hex ys → xs ≡ ys
 hex_same xs ys h k e = sym (unhex-hex xs h) ∙ ap unhex e ∙ unhex-hex ys k

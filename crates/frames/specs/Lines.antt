@@ -1,11 +1,11 @@
 -- The lines of an input.
 use Rattle.std.specs.Prelude.{◌≡◌, ℕ, ◌<◌, cond, ◌⊎◌, List, [], ◌∷◌, ◌++◌, length, ◌==◌, ◌≢◌}
-use Rattle.std.specs.List.{AllByRecursion as All}
+use Rattle.std.specs.List.{AllByRecursion}
 
 -- the first line of an input that has bytes, and what comes after its end
 pub record FirstLine (input line rest : List ℕ) : Type 0 where
   pub some_bytes : 0 < length input
-  pub unbroken : All (λ b. b ≢ 10) line
+  pub unbroken : AllByRecursion (λ b. b ≢ 10) line
   pub whole : (input ≡ line ++ (10 ∷ rest)) ⊎ ((input ≡ line) × (rest ≡ []))
 
 abbrev pub onto_first : ℕ → List (List ℕ) → List (List ℕ)

@@ -1,7 +1,7 @@
 -- What a line is read as: a call, or the first row that refuses it.
 use Rattle.std.specs.Prelude.{◌≡◌, ℕ, ◌+◌, ◌%◌, ◌^◌, ◌<◌, min, true, ◌⊎◌, List, ◌∷◌, length, is_some, Some, None, Ok, Err, Option, Result, FitsSigned, ◌≢◌, slice_index}
 use Rattle.std.specs.Int.{w32}
-use Rattle.std.specs.List.{AllByRecursion as All}
+use Rattle.std.specs.List.{AllByRecursion}
 use Rattle.frames.specs.declared.field.Field.{Field}
 use Rattle.frames.specs.declared.field.Field.TheVariants.{Byte, Half, Word, Signed}
 use Rattle.frames.specs.declared.call.Call.{Call}
@@ -25,7 +25,7 @@ LineRefused line (NoDigit k) = (BadLength line → ⊥) × (k < length line) × 
 pub record Spells (line bytes : List ℕ) : Type 0 where
   pub good_length : BadLength line → ⊥
   pub digits : hex bytes ≡ line
-  pub small : All (λ b. b < 256) bytes
+  pub small : AllByRecursion (λ b. b < 256) bytes
 
 -- no call has the frame's kind and its length
 abbrev pub Unknown : List ℕ → Type 0
@@ -44,7 +44,7 @@ FieldFits (Word n) = n < 2 ^ 32
 FieldFits (Signed z) = FitsSigned w32 z
 
 abbrev pub Fits : Call → Type 0
-Fits c = All FieldFits (fields_of c)
+Fits c = AllByRecursion FieldFits (fields_of c)
 
 -- a line is read as the call whose line it is
 abbrev pub Reads : List ℕ → Result Call FrameFault → Type 0

@@ -1,6 +1,6 @@
 -- Best chains on a line are the highest places, or a pillar that is too low gives a tight chain. No code is named here. Assumes nothing.
 use Rattle.std.proofs.Common.{◌≡◌, ℕ, ◌+◌, ◌^◌, ◌<◌, ◌≤◌, true, List, [], ◌∷◌, reverse, sym, refl, ap, ◌∙◌, inl, inr, arith}
-use Rattle.std.specs.List.{AllByRecursion as All}
+use Rattle.std.specs.List.{AllByRecursion}
 use Rattle.chains.specs.Measures.{add_steps, fewer}
 use Rattle.chains.specs.Chains.{chain_value, Chain, Different, Leads, BestFound}
 use Rattle.chains.specs.Along.{value_onward, last_of}
@@ -25,7 +25,7 @@ pub record Way (l : Line) (first : ℕ → Steps) (b sum : ℕ) (pillars : List 
   pub start : ℕ
   pub rest : List ℕ
   pub listed : pillars ≡ start ∷ rest
-  pub within : All (λ p. p < l.pillars) (start ∷ rest)
+  pub within : AllByRecursion (λ p. p < l.pillars) (start ∷ rest)
   pub different : Different (start ∷ rest)
   pub from : ℕ
   pub onto : ℕ

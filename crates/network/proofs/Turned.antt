@@ -3,7 +3,7 @@ use Rattle.std.proofs.Common.{◌≡◌, ℕ, ◌+◌, ◌-◌, ◌<◌, ◌≤�
 use mathlib.Core.List.{reverse_aux}
 use lib.ListN.{length-reverse}
 use Rattle.network.specs.declared.line.Held.{Held}
-use Rattle.std.specs.List.{AllByRecursion as All}
+use Rattle.std.specs.List.{AllByRecursion}
 use Rattle.std.proofs.lemmas.List.{take_at, drop_at}
 use Rattle.chains.specs.Chains.{Different}
 use Rattle.chains.proofs.Reversed.{all_reversed, different_reversed}
@@ -16,7 +16,7 @@ use Rattle.network.proofs.Triangle.{apart_turned}
 
 module _ (m n : ℕ) (feeder link : ℕ → ℕ → Steps) (even : (j k : ℕ) → j < n → k < n → link j k ≡ link k j) (a b : ℕ) where
   -- `behind` are the pillars that were passed before p, the nearest first
-  back : (p : ℕ) (ps behind : List ℕ) (t u : ℕ) → All (λ q. q < n) (p ∷ ps) → AddTo (reaches_onward feeder link p ps b) t → AddTo (reaches_onward feeder link p behind a) u → (s : ℕ) × (rest : List ℕ) × (reverse_aux ps (p ∷ behind) ≡ s ∷ rest) × AddTo (reaches_along feeder link b s rest a) (t + u)
+  back : (p : ℕ) (ps behind : List ℕ) (t u : ℕ) → AllByRecursion (λ q. q < n) (p ∷ ps) → AddTo (reaches_onward feeder link p ps b) t → AddTo (reaches_onward feeder link p behind a) u → (s : ℕ) × (rest : List ℕ) × (reverse_aux ps (p ∷ behind) ≡ s ∷ rest) × AddTo (reaches_along feeder link b s rest a) (t + u)
   back p [] behind t u h ahead passed =
       let f = add_first (feeder b p) [] t ahead in
       (p, behind, refl, add_cons (feeder b p) (reaches_onward feeder link p behind a) f.0 u (t + u) f.2 passed (omega (arith, f.3, f.4)))
@@ -33,7 +33,7 @@ module _ (m n : ℕ) (feeder link : ℕ → ℕ → Steps) (even : (j k : ℕ) �
     start = p;
     rest = ps;
     listed = ap reverse C.listed ∙ is;
-    within = subst (All (λ q. q < n)) is (all_reversed (λ q. q < n) (C.start ∷ C.rest) C.within);
+    within = subst (AllByRecursion (λ q. q < n)) is (all_reversed (λ q. q < n) (C.start ∷ C.rest) C.within);
     different = subst Different is (different_reversed (C.start ∷ C.rest) C.different);
     adds = adds;
   }

@@ -1,6 +1,6 @@
 -- Chains between two fixed points, and when one is too short. Assumes nothing.
 use Rattle.std.specs.Prelude.{◌≡◌, ℕ, ◌+◌, ◌-◌, ◌<◌, ◌≢◌, List, [], ◌∷◌, ◌++◌, length, replicate, ℤ}
-use Rattle.std.specs.List.{AllByRecursion as All}
+use Rattle.std.specs.List.{AllByRecursion}
 use Rattle.chains.specs.Chains.{Different}
 use Rattle.chains.specs.declared.measure.Steps.{Steps}
 use Rattle.chains.specs.declared.measure.Steps.TheVariants.{Limited, Unlimited}
@@ -28,7 +28,7 @@ pub record Chained (m n : ℕ) (feeder link : ℕ → ℕ → Steps) (a b : ℕ)
   pub start : ℕ
   pub rest : List ℕ
   pub listed : pillars ≡ start ∷ rest
-  pub within : All (λ p. p < n) (start ∷ rest)
+  pub within : AllByRecursion (λ p. p < n) (start ∷ rest)
   pub different : Different (start ∷ rest)
   pub adds : AddTo (reaches_along feeder link a start rest b) total
 

@@ -1,6 +1,6 @@
 -- The greatest fixed price, from which the search for the level begins.
 use Rattle.std.proofs.Common.{◌≡◌, ℕ, ◌<◌, ◌≤◌, true, not, ◌&&◌, leb, [], Some, sym, ◌∙◌, subst, arith}
-use Rattle.std.specs.List.{AllByRecursion as All}
+use Rattle.std.specs.List.{AllByRecursion}
 use Rattle.std.proofs.ByRecursion.{All-weaker}
 use Rattle.std.proofs.lemmas.Bool.{and_parts, leb-true}
 use Rattle.yard.specs.Edits.{limit_over}
@@ -19,7 +19,7 @@ use Rattle.placing.proofs.Topmost.{run_fair}
 
 -- a plan with a mast has a run
 pub some_run : (F : InForce) → SomeMast F → 0 < F.count → runs_of F ≡ [] → ⊥
-some_run F (m, s, stands) h none = the_feeder (λ r. ⊥) F m 0 s (subst (All (λ r. ⊥)) (sym none) tt) stands h
+some_run F (m, s, stands) h none = the_feeder (λ r. ⊥) F m 0 s (subst (AllByRecursion (λ r. ⊥)) (sym none) tt) stands h
 
 at_no_length : (t : Terms) → price_at t 0 ≡ t.fixed
 at_no_length t = omega arith
@@ -41,7 +41,7 @@ module _ (F : InForce) (d : Priced) (is : IsDearest (price_by F Nowhere) (runs_o
     holds = sym (at_no_length (run_terms F d.run)) ∙ is.1.holds;
   }
 
-  pub all_paid : All (λ r. (run_terms F r).fixed ≤ d.cents) (runs_of F)
+  pub all_paid : AllByRecursion (λ r. (run_terms F r).fixed ≤ d.cents) (runs_of F)
   all_paid =
       All-weaker (λ s. price_by F Nowhere s ≤ d.cents) (λ s. (run_terms F s).fixed ≤ d.cents) (λ s h. subst (λ n. n ≤ d.cents) (at_no_length (run_terms F s)) h) (runs_of F)
       (at_most (price_by F Nowhere) (runs_of F) d.cents (omega (arith, is.0)))

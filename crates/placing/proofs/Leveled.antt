@@ -1,7 +1,7 @@
 -- From what was settled to the level and the sites of the plan.
 use Rattle.std.proofs.Common.{◌≡◌, ℕ, zero, suc, ◌+◌, ◌-◌, ◌<◌, ◌≤◌, List, [], ◌∷◌, map, length, take, ℤ, ◌+ℤ◌, ◌-ℤ◌, Some, None, Ok, Option, sym, refl, ap, ◌∙◌, subst, arith}
 use native.Mathlib.Nat.{sub-zero}
-use Rattle.std.specs.List.{AllByRecursion as All}
+use Rattle.std.specs.List.{AllByRecursion}
 use Rattle.std.proofs.lemmas.List.{get_or-take, take-map, length-map, length-take}
 use Rattle.std.proofs.lemmas.Int.{ints}
 use Rattle.network.specs.declared.answer.Positions.{Positions}
@@ -60,7 +60,7 @@ module _ (F : InForce) (sites : List Site) (n : ℕ) (count : n ≡ F.count) (ma
   pub front_read : (at : Positions) → ((j : ℕ) → j < n → IsReading (site_at (spots_of sites) j).hx (site_at (spots_of sites) j).hy (position_in at j)) → ReadAs F front_sites (position_in at)
   front_read at read j h = subst (λ s. IsReading s.hx s.hy (position_in at j)) (sym (at_front j h)) (read j (omega arith))
 
-  same_prices : (rs : List Run) → All (λ r. price_by F (At sites) r ≡ price_of F front_sites r) rs → map (price_by F (At sites)) rs ≡ map (price_of F front_sites) rs
+  same_prices : (rs : List Run) → AllByRecursion (λ r. price_by F (At sites) r ≡ price_of F front_sites r) rs → map (price_by F (At sites)) rs ≡ map (price_of F front_sites) rs
   same_prices [] h = refl
   same_prices (r ∷ rs) h = ap (λ x. x ∷ map (price_by F (At sites)) rs) h.0 ∙ ap (λ l. price_of F front_sites r ∷ l) (same_prices rs h.1)
 

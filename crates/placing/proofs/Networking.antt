@@ -1,6 +1,6 @@
 -- The tables of a plan at a level make a network that stands for it.
 use Rattle.std.proofs.Common.{◌≡◌, ℕ, ◌<◌, ◌≤◌, true, not, List, length, ℤ, ◌+ℤ◌, ◌-ℤ◌, nat_abs, ◌≤ℤ◌, Some, None, Ok, Err, Option, sym, refl, ap, ◌∙◌, subst, arith}
-use Rattle.std.specs.List.{AllByRecursion as All}
+use Rattle.std.specs.List.{AllByRecursion}
 use Rattle.std.proofs.lemmas.Int.{ints}
 use Rattle.std.proofs.lemmas.Bool.{and_parts, not-true, ltb-false}
 use Rattle.chains.specs.declared.measure.Steps.{Steps}
@@ -107,7 +107,7 @@ module _ (F : InForce) (grid : (m : ℕ) → on_grid F m ≡ true) where
             let there = P.feet.mast in
             mast there.0 there.1 there.3 (P.spots i h ∙ ap (λ o. point_reading (foot_or o P.foot.first)) e ∙ ap point_reading there.4)
 
-    pub fits_ok : All (λ r. (run_terms F r).fixed ≤ L) (runs_of F) → (at : Positions) → Placed (layout_of points feeders links) at → FitsAt F L (Ok at)
+    pub fits_ok : AllByRecursion (λ r. (run_terms F r).fixed ≤ L) (runs_of F) → (at : Positions) → Placed (layout_of points feeders links) at → FitsAt F L (Ok at)
     fits_ok paid at G = (
       λ j u.
           let v : j < length links = omega (arith, row_a_pillar) in (

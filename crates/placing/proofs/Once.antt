@@ -1,6 +1,6 @@
 -- The rules of Place and Why determine the answers; only which chain Why tells is free.
 use Rattle.std.proofs.Common.{◌≡◌, ℕ, ◌-◌, ◌*◌, ◌≤◌, max, ◌⊎◌, List, [], ◌∷◌, ◌++◌, length, drop, ℤ, ◌+ℤ◌, ◌-ℤ◌, ◌≤ℤ◌, Ok, Err, Result, sym, refl, ap, ◌∙◌, subst, inl, inr, ⊎_elim, arith}
-use Rattle.std.specs.List.{AllByRecursion as All}
+use Rattle.std.specs.List.{AllByRecursion}
 use Rattle.std.proofs.lemmas.List.{drop_at, drop-drop, ext_get_or}
 use Rattle.std.proofs.lemmas.Int.{ints}
 use Rattle.std.proofs.lemmas.Bool.{cases_order}
@@ -110,15 +110,15 @@ place_once F before (Err r) (Err s) after after' (e, h) (f, k) = (ap Err (refuse
 first_once : (P : Run → Type 0) (all : List Run) (r s : Run) → FirstWith P all r → FirstWith P all s → r ≡ s
 first_once P all r s W V = go W.before V.before (sym W.split ∙ V.split) W.none_before V.none_before
   where
-    go : (xs ys : List Run) → xs ++ (r ∷ W.after) ≡ ys ++ (s ∷ V.after) → All (λ x. P x → ⊥) xs → All (λ x. P x → ⊥) ys → r ≡ s
+    go : (xs ys : List Run) → xs ++ (r ∷ W.after) ≡ ys ++ (s ∷ V.after) → AllByRecursion (λ x. P x → ⊥) xs → AllByRecursion (λ x. P x → ⊥) ys → r ≡ s
     go [] [] e h k = cc
     go [] (y ∷ ys) e h k = let same : r ≡ y = cc in absurd (k.0 (subst P same W.holds))
     go (x ∷ xs) [] e h k = let same : s ≡ x = cc in absurd (h.0 (subst P same V.holds))
     go (x ∷ xs) (y ∷ ys) e h k = let rest : xs ++ (r ∷ W.after) ≡ ys ++ (s ∷ V.after) = cc in go xs ys rest h.1 k.1
 
 -- where there is a first run with a property, not every run is without it
-never_first : (P : Run → Type 0) (all : List Run) (r : Run) → FirstWith P all r → All (λ s. P s → ⊥) all → ⊥
-never_first P all r W h = (last_part (λ s. P s → ⊥) W.before (r ∷ W.after) (subst (All (λ s. P s → ⊥)) W.split h)).0 W.holds
+never_first : (P : Run → Type 0) (all : List Run) (r : Run) → FirstWith P all r → AllByRecursion (λ s. P s → ⊥) all → ⊥
+never_first P all r W h = (last_part (λ s. P s → ⊥) W.before (r ∷ W.after) (subst (AllByRecursion (λ s. P s → ⊥)) W.split h)).0 W.holds
 
 -- a clash leaves no least level, and a chain excludes a fixed price at the least level
 module _ (F : InForce) where
@@ -130,7 +130,7 @@ module _ (F : InForce) where
   first_at r L M d e = subst (λ (n : ℕ). FirstWith (λ s. (run_terms F s).fixed ≡ n) (runs_of F) r) (least_once F L M d e)
 
   priced : (r : Run) (L M : ℕ) → LeastLevel F L → LeastLevel F M → FirstWith (λ s. (run_terms F s).fixed ≡ L) (runs_of F) r →
-      All (λ s. (run_terms F s).fixed ≡ M → ⊥) (runs_of F) → ⊥
+      AllByRecursion (λ s. (run_terms F s).fixed ≡ M → ⊥) (runs_of F) → ⊥
   priced r L M d e W h = never_first (λ s. (run_terms F s).fixed ≡ M) (runs_of F) r (first_at r L M d e W) h
 
   reason_once : (a b : Reason) (ps qs : List ℕ) → Reasoned F a ps → Reasoned F b qs → SameReason a b

@@ -1,7 +1,7 @@
 -- A chain that is too short, at another level.
 use Rattle.std.proofs.Common.{◌≡◌, ℕ, ◌+◌, ◌-◌, ◌/◌, ◌<◌, ◌≤◌, true, List, [], ◌∷◌, map, length, take, replicate, ℤ, ◌+ℤ◌, ◌-ℤ◌, nat_abs, Some, sym, refl, ap, ◌∙◌, subst, arith}
 use native.Mathlib.Nat.{sub-zero}
-use Rattle.std.specs.List.{AllByRecursion as All}
+use Rattle.std.specs.List.{AllByRecursion}
 use Rattle.std.proofs.lemmas.List.{take_at}
 use Rattle.std.proofs.lemmas.Int.{ints}
 use Rattle.chains.specs.declared.measure.Steps.{Steps}
@@ -50,7 +50,7 @@ module _ (F : InForce) (c : ShortChain) (of : Run → Steps) (W : ChainShort F o
   pub some_pillars : 0 < length (take (c.count - 0) c.pillars)
   some_pillars = rw pillars_are W.holds.some_pillar
 
-  pub pillars_within : All (λ p. p < F.count) (take (c.count - 0) c.pillars)
+  pub pillars_within : AllByRecursion (λ p. p < F.count) (take (c.count - 0) c.pillars)
   pillars_within = rw pillars_are W.holds.in_plan
 
   -- the same chain, with what its runs add up to by another measure
@@ -103,7 +103,7 @@ module _ (F : InForce) (c : ShortChain) (of : Run → Steps) (W : ChainShort F o
         let b = foot_far c.to W.holds.there W.holds.to_stands in
         subst (λ n. n ≤ 200000) (sym W.holds.gap_is) (feet_far W.holds.here W.holds.there a.0 a.1 b.0 b.1 a.2 b.2 (far_apart a.0 a.1 b.0 b.1 a.3 a.4 b.3 b.4))
 
-    fair_runs : (rs : List Run) → All (λ t. fair t ≡ true) (map (run_terms F) rs)
+    fair_runs : (rs : List Run) → AllByRecursion (λ t. fair t ≡ true) (map (run_terms F) rs)
     fair_runs [] = tt
     fair_runs (r ∷ rs) = (run_fair F feeders links r, fair_runs rs)
 

@@ -1,6 +1,6 @@
 -- From what was settled to the reason that is told.
 use Rattle.std.proofs.Common.{◌≡◌, ℕ, ◌-◌, ◌<◌, ◌≤◌, List, [], ◌++◌, length, take, drop, replicate, Ok, sym, refl, ap, ◌∙◌, subst, arith}
-use Rattle.std.specs.List.{AllByRecursion as All}
+use Rattle.std.specs.List.{AllByRecursion}
 use Rattle.std.proofs.ByRecursion.{All-weaker}
 use Rattle.std.proofs.lemmas.List.{take_at}
 use Rattle.chains.specs.declared.measure.Steps.{Steps}
@@ -33,7 +33,7 @@ module _ (F : InForce) (before : List ℕ) (ready : Ready F) (room : F.count ≤
   clash_told c after W e = (ready, room, (W.chain, W.holds, W.long, written_over F (run_limit F) c W before after e))
 
   module _ (start L : ℕ) (fixed : Run) (least : LeastLevel F L) (first : FirstWith (λ r. (run_terms F r).fixed ≡ start) (runs_of F) fixed)
-      (paid : All (λ r. (run_terms F r).fixed ≤ start) (runs_of F)) where
+      (paid : AllByRecursion (λ r. (run_terms F r).fixed ≤ start) (runs_of F)) where
     pub floor_told : L ≡ 0 → WhyStep F before (Ok Floor) before
     floor_told e = (ready, room, ([], (L, least, e), refl, refl))
 

@@ -1,6 +1,6 @@
 -- At the highest level it is their limits that keep runs from going 200,000 steps.
 use Rattle.std.proofs.Common.{◌≡◌, ℕ, ◌+◌, ◌<◌, ◌≤◌, min, max, true, not, ◌&&◌, leb, List, [], ◌∷◌, map, Some, None, Option, sym, refl, ap, mul-le-mul, arith}
-use Rattle.std.specs.List.{AllByRecursion as All}
+use Rattle.std.specs.List.{AllByRecursion}
 use Rattle.std.proofs.lemmas.Bool.{and_parts, leb-true}
 use Rattle.chains.specs.declared.measure.Steps.TheVariants.{Limited}
 use Rattle.network.specs.Chain.{AddTo}
@@ -38,7 +38,7 @@ top_limit t x f e h =
     at_limit t.limit x (exact.kept x (omega arith)) (λ k. omega (arith, exact.enough pays.0 (x + 1) pays.1 k))
 
 -- so the runs of a chain that is short at the highest level go just their limits
-pub top_limits : (ts : List Terms) (total gap : ℕ) → All (λ t. fair t ≡ true) ts → AddTo (reaches_at ts 3000000000) total → total < gap → gap ≤ 200000 →
+pub top_limits : (ts : List Terms) (total gap : ℕ) → AllByRecursion (λ t. fair t ≡ true) ts → AddTo (reaches_at ts 3000000000) total → total < gap → gap ≤ 200000 →
     AddTo (map (λ t. limit_reach t.limit) ts) total
 top_limits [] total gap f h short near = h
 top_limits (t ∷ ts) total gap f h short near =

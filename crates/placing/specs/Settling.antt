@@ -1,6 +1,6 @@
 -- How the least level is found: by chains that are too short below it.
 use Rattle.std.specs.Prelude.{◌≡◌, ℕ, ◌-◌, ◌<◌, ◌≤◌, Some, None, Ok, Err, Option, Result}
-use Rattle.std.specs.List.{AllByRecursion as All}
+use Rattle.std.specs.List.{AllByRecursion}
 use Rattle.chains.specs.declared.measure.Steps.{Steps}
 use Rattle.network.specs.declared.answer.ShortChain.{ShortChain}
 use Rattle.network.specs.Chain.{Written}
@@ -37,7 +37,7 @@ SettledFrom F start (Clash c) = ChainShort F (run_limit F) c
 pub record SolvedBy (F : InForce) (s : Solved) : Type 0 where
   pub start : ℕ
   pub dearest_fixed : FirstWith (λ r. (run_terms F r).fixed ≡ start) (runs_of F) s.fixed
-  pub all_paid : All (λ r. (run_terms F r).fixed ≤ start) (runs_of F)
+  pub all_paid : AllByRecursion (λ r. (run_terms F r).fixed ≤ start) (runs_of F)
   pub settled_from : SettledFrom F start s.settled
 
 -- a chain as it is told

@@ -1,6 +1,6 @@
 -- What Place and Why answer, and what they leave in the caller's list.
 use Rattle.std.specs.Prelude.{◌≡◌, ℕ, ◌-◌, ◌*◌, ◌<◌, ◌≤◌, ◌⊎◌, List, [], ◌∷◌, ◌++◌, length, drop, ℤ, Ok, Err, Result, ◌≢◌}
-use Rattle.std.specs.List.{AllByRecursion as All}
+use Rattle.std.specs.List.{AllByRecursion}
 use Rattle.chains.specs.declared.measure.Steps.{Steps}
 use Rattle.yard.specs.declared.force.InForce.{InForce}
 use Rattle.yard.specs.declared.force.Run.{Run}
@@ -54,7 +54,7 @@ ToldShort F of c pillars = TooShort F of c.from c.to c.gap c.total pillars
 abbrev pub Because : InForce → ℕ → Reason → List ℕ → Type 0
 Because F L Floor pillars = L ≡ 0
 Because F L (Fixed r) pillars = (0 < L) × FirstWith (λ s. (run_terms F s).fixed ≡ L) (runs_of F) r
-Because F L (Chain c) pillars = (0 < L) × All (λ s. (run_terms F s).fixed ≢ L) (runs_of F) × ToldShort F (reach_of F (L - 1)) c pillars
+Because F L (Chain c) pillars = (0 < L) × AllByRecursion (λ s. (run_terms F s).fixed ≢ L) (runs_of F) × ToldShort F (reach_of F (L - 1)) c pillars
 Because F L (Clash c) pillars = ⊥
 
 -- a reason is right: the limits along a chain clash, or there is a least level and this is why it is no lower

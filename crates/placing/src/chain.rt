@@ -1,7 +1,7 @@
 // A chain of runs between two masts, by the terms of its runs: at which levels it is short of a gap.
 
 ghost use Rattle.std.specs.Prelude.{◌≡◌, ℕ, ◌+◌, ◌<◌, ◌≤◌, map, length, take, MatchOption};
-ghost use Rattle.std.specs.List.{AllByRecursion as All};
+ghost use Rattle.std.specs.List.{AllByRecursion};
 ghost use Rattle.yard.specs.declared.force.Run.TheVariants.{Feeder as feeder_run, Link as link_run};
 ghost use Rattle.runs.specs.Order.{run_terms};
 ghost use Rattle.runs.specs.Shortness.{chain_runs};
@@ -48,7 +48,7 @@ fn link_terms(plan: &Plan, p: u8, q: u8) -> Terms
 pub(crate) fn chain_terms(plan: &Plan, from: u8, pillars: &[u8], to: u8) -> [Terms; 13]
     requires some { 0 < length pillars.now }
     requires few { length pillars.now ≤ 12 }
-    requires within { All (λ p. p < plan.now.force.count) pillars.now }
+    requires within { AllByRecursion (λ p. p < plan.now.force.count) pillars.now }
     ensures { take (length pillars.now + 1) result ≡ map (run_terms plan.now.force) (chain_runs from pillars.now to) }
 {
     let mut terms = [NEW_TERMS; 13];

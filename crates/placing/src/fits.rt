@@ -1,7 +1,7 @@
 // The fit of a plan's network at a level.
 
 ghost use Rattle.std.specs.Prelude.{◌≤◌};
-ghost use Rattle.std.specs.List.{AllByRecursion as All};
+ghost use Rattle.std.specs.List.{AllByRecursion};
 ghost use Rattle.runs.specs.Order.{runs_of, run_terms};
 ghost use Rattle.placing.specs.Networked.{Pointed, FitsAt};
 
@@ -20,7 +20,7 @@ pub(crate) fn fit_at(
     level: u32,
 ) -> Result<Positions, ShortChain>
     requires points { Pointed plan.now.force points.now }
-    requires level { All (λ r. (run_terms plan.now.force r).fixed ≤ level) (runs_of plan.now.force) }
+    requires level { AllByRecursion (λ r. (run_terms plan.now.force r).fixed ≤ level) (runs_of plan.now.force) }
     ensures { FitsAt plan.now.force level result }
 {
     let mut feeders = [[Steps::Unlimited; 12]; 40];

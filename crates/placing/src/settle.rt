@@ -1,7 +1,7 @@
 // The least level of a plan, by jumps each of which a chain forces.
 
 ghost use Rattle.std.specs.Prelude.{◌≤◌};
-ghost use Rattle.std.specs.List.{AllByRecursion as All};
+ghost use Rattle.std.specs.List.{AllByRecursion};
 ghost use Rattle.runs.specs.Order.{runs_of, run_terms};
 ghost use Rattle.runs.specs.Shortness.{reach_of};
 ghost use Rattle.placing.specs.Networked.{Pointed};
@@ -76,7 +76,7 @@ fn raise_over(plan: &Plan, chain: ShortChain, level: u32) -> Result<Raised, Shor
 // The least level from `start` on, which pays every fixed price: each jump goes to a level below which a chain is too short.
 pub(crate) fn settle(plan: &Plan, points: &[(i32, i32)], start: u32) -> Settled
     requires points { Pointed plan.now.force points.now }
-    requires paid { All (λ r. (run_terms plan.now.force r).fixed ≤ start) (runs_of plan.now.force) }
+    requires paid { AllByRecursion (λ r. (run_terms plan.now.force r).fixed ≤ start) (runs_of plan.now.force) }
     requires bounded { start ≤ 3000000000 }
     ensures { SettledFrom plan.now.force start result }
 {

@@ -1,7 +1,7 @@
 -- A plan and a network that stands for it: lengths, fields and chains of the one are those of the other.
 use Rattle.std.proofs.Common.{◌≡◌, ℕ, ◌<◌, List, [], ◌∷◌, map, length, ℤ, pos, ◌+ℤ◌, ◌-ℤ◌, nat_abs, ◌≤ℤ◌, Some, None, Option, sym, refl, ap, ◌∙◌, subst, ⊎_elim, arith}
 use lib.Signed.{quot_z}
-use Rattle.std.specs.List.{AllByRecursion as All}
+use Rattle.std.specs.List.{AllByRecursion}
 use Rattle.std.proofs.ByRecursion.{All-get_or, All-from_get_or}
 use Rattle.std.proofs.lemmas.Int.{ints}
 use Rattle.std.proofs.lemmas.Bool.{cases_order}
@@ -56,7 +56,7 @@ module _ (F : InForce) (of : Run → Steps) (N : Layout) (M : Models F of N) (P 
   link_length_lem : (p q : ℕ) → p < F.count → q < F.count → apart (at p) (at q) ≡ length_of F P (Link p q)
   link_length_lem p q u v = larger_gap (site_at P p).hx (site_at P p).hy (site_at P q).hx (site_at P q).hy (at p) (at q) (R p u) (R q v)
 
-  meets_read : Even of → All (λ r. Within (length_of F P r) (of r)) (runs_of F) → Meets N at
+  meets_read : Even of → AllByRecursion (λ r. Within (length_of F P r) (of r)) (runs_of F) → Meets N at
   meets_read even h = record {
     feeders = λ i j k l. from_point i j k (omega (arith, M.pillars)) (mast_spot F i) refl;
     links = λ j k l m. between j k (omega (arith, M.pillars)) (omega (arith, M.pillars));
@@ -76,7 +76,7 @@ module _ (F : InForce) (of : Run → Steps) (N : Layout) (M : Models F of N) (P 
           (λ l. within_moved _ _ _ _ (apart_turned (at j) (at k)) (M.link j k u v ∙ even j k ∙ sym (M.link k j v u)) (up k j v u l)))
           (cases_order j k)
 
-  pub meets_all : Meets N at → All (λ r. Within (length_of F P r) (of r)) (runs_of F)
+  pub meets_all : Meets N at → AllByRecursion (λ r. Within (length_of F P r) (of r)) (runs_of F)
   meets_all m =
       all_runs _ F
       (λ i j s e u. within_moved _ _ _ _ (sym (feeder_length_lem i j s e u)) (sym (M.feeder i j s e u)) (m.feeders i j (M.covers i s e) (omega (arith, M.pillars))))
@@ -84,7 +84,7 @@ module _ (F : InForce) (of : Run → Steps) (N : Layout) (M : Models F of N) (P 
       within_moved _ _ _ _ (sym (link_length_lem p q v u)) (sym (M.link p q v u)) (m.links p q (omega (arith, M.pillars)) (omega (arith, M.pillars))))
 
 pub meets_from : (F : InForce) (of : Run → Steps) (N : Layout) → Models F of N → Even of → (R : Placing) → Rival F R →
-    All (λ r. Within (length_of F R r) (of r)) (runs_of F) → Meets N (readings R)
+    AllByRecursion (λ r. Within (length_of F R r) (of r)) (runs_of F) → Meets N (readings R)
 meets_from F of N M even R s h = meets_read F of N M R (readings R) (readings_read F R s) even h
 
 -- the order of two numbers is that of their doubles
@@ -134,15 +134,15 @@ field_all F of N M foot at P long read h =
 
 -- along a chain between standing masts the network has the reaches of the plan's runs
 module _ (F : InForce) (of : Run → Steps) (N : Layout) (M : Models F of N) (a b : ℕ) (here there : Spot) (e : StandsAt F a here) (f : StandsAt F b there) where
-  onward : (p : ℕ) (ps : List ℕ) → All (λ q. q < F.count) (p ∷ ps) → reaches_onward N.feeder N.link p ps b ≡ map of (runs_onward p ps b)
+  onward : (p : ℕ) (ps : List ℕ) → AllByRecursion (λ q. q < F.count) (p ∷ ps) → reaches_onward N.feeder N.link p ps b ≡ map of (runs_onward p ps b)
   onward p [] h = let x = M.feeder b p there f h.0 in cc
   onward p (q ∷ ps) h = let x = M.link p q h.0 h.1.0 in let y = onward q ps h.1 in cc
 
-  pub along : (p : ℕ) (ps : List ℕ) → All (λ q. q < F.count) (p ∷ ps) → reaches_along N.feeder N.link a p ps b ≡ map of (chain_runs a (p ∷ ps) b)
+  pub along : (p : ℕ) (ps : List ℕ) → AllByRecursion (λ q. q < F.count) (p ∷ ps) → reaches_along N.feeder N.link a p ps b ≡ map of (chain_runs a (p ∷ ps) b)
   along p ps h = let x = M.feeder a p here e h.0 in let y = onward p ps h in cc
 
 -- some feeder at the end of a chain whose reaches add up is limited
-last_limited : (feeder link : ℕ → ℕ → Steps) (n b p : ℕ) (ps : List ℕ) (t : ℕ) → All (λ q. q < n) (p ∷ ps) → AddTo (reaches_onward feeder link p ps b) t →
+last_limited : (feeder link : ℕ → ℕ → Steps) (n b p : ℕ) (ps : List ℕ) (t : ℕ) → AllByRecursion (λ q. q < n) (p ∷ ps) → AddTo (reaches_onward feeder link p ps b) t →
     (q : ℕ) × (r : ℕ) × (q < n) × (feeder b q ≡ Limited r)
 last_limited feeder link n b p [] t h sum = let f = add_first _ [] t sum in (p, f.0, h.0, f.2)
 last_limited feeder link n b p (q ∷ ps) t h sum =
@@ -158,7 +158,7 @@ module _ (F : InForce) (of : Run → Steps) (N : Layout) (M : Models F of N) whe
       go None k = absurd (let x = M.absent i p u k v in let z : ◌≡◌ {A = ℕ} 0 1 = cc in omega arith)
 
   between_standing : (a b p : ℕ) (ps : List ℕ) (gap total : ℕ) (here there : Spot) → StandsAt F a here → StandsAt F b there → a < b →
-      All (λ q. q < F.count) (p ∷ ps) → Different (p ∷ ps) → gap ≡ apart (N.point a) (N.point b) → AddTo (reaches_along N.feeder N.link a p ps b) total →
+      AllByRecursion (λ q. q < F.count) (p ∷ ps) → Different (p ∷ ps) → gap ≡ apart (N.point a) (N.point b) → AddTo (reaches_along N.feeder N.link a p ps b) total →
       total < gap → TooShort F of a b gap total (p ∷ ps)
   between_standing a b p ps gap total here there e f lower inside apart_each gap_is adds short = record {
     lower_first = lower;
@@ -177,7 +177,7 @@ module _ (F : InForce) (of : Run → Steps) (N : Layout) (M : Models F of N) whe
   pub told_from : (a b : ℕ) (pillars : List ℕ) (gap total : ℕ) → Short N a b pillars gap total → a < b → TooShort F of a b gap total pillars
   told_from a b pillars gap total S lower =
       let C = S.chain in
-      let inside : All (λ q. q < F.count) (C.start ∷ C.rest) = subst (λ (n : ℕ). All (λ q. q < n) (C.start ∷ C.rest)) M.pillars C.within in
+      let inside : AllByRecursion (λ q. q < F.count) (C.start ∷ C.rest) = subst (λ (n : ℕ). AllByRecursion (λ q. q < n) (C.start ∷ C.rest)) M.pillars C.within in
       let first = add_first _ (reaches_onward N.feeder N.link C.start C.rest b) total C.adds in
       let last = last_limited N.feeder N.link F.count b C.start C.rest first.1 inside first.3 in
       let x = stands_there a C.start first.0 C.from inside.0 first.2 in

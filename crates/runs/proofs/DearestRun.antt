@@ -1,6 +1,6 @@
 -- What is found run by run is the dearest run.
 use Rattle.std.proofs.Common.{◌≡◌, ℕ, suc, ◌+◌, ◌-◌, ◌<◌, ◌≤◌, max, Bool, true, false, cond, leb, List, [], ◌∷◌, ◌++◌, map, length, get_or, drop, Some, None, Option, sym, refl, ap, ◌∙◌, subst, add-one, arith}
-use Rattle.std.specs.List.{AllByRecursion as All}
+use Rattle.std.specs.List.{AllByRecursion}
 use Rattle.std.proofs.lemmas.List.{append_assoc, append-nil, drop_more, drop_all}
 use Rattle.std.proofs.ByRecursion.{All-weaker}
 use Rattle.std.proofs.lemmas.Bool.{leb-true, leb-false}
@@ -17,7 +17,7 @@ module _ (of : Run → ℕ) where
   greatest_push [] r = omega arith
   greatest_push (x ∷ xs) r = omega (arith, greatest_push xs r)
 
-  pub at_most : (xs : List Run) (n : ℕ) → greatest (map of xs) ≤ n → All (λ s. of s ≤ n) xs
+  pub at_most : (xs : List Run) (n : ℕ) → greatest (map of xs) ≤ n → AllByRecursion (λ s. of s ≤ n) xs
   at_most [] n h = tt
   at_most (x ∷ xs) n h = (omega arith, at_most xs n (omega arith))
 

@@ -1,6 +1,6 @@
 -- What a chain that is too short rules out, and what the greatest positions of a plan's network are.
 use Rattle.std.proofs.Common.{◌≡◌, ℕ, ◌+◌, ◌-◌, ◌%◌, ◌<◌, ◌≤◌, min, max, List, [], ◌∷◌, map, length, ℤ, pos, ◌+ℤ◌, ◌-ℤ◌, nat_abs, Some, None, Option, sym, refl, ap, ◌∙◌, subst, ⊎_elim, arith}
-use Rattle.std.specs.List.{AllByRecursion as All}
+use Rattle.std.specs.List.{AllByRecursion}
 use Rattle.std.proofs.ByRecursion.{All-weaker, All-from_get_or}
 use Rattle.std.proofs.lemmas.List.{get_or_past}
 use Rattle.std.proofs.lemmas.Int.{ints}
@@ -96,7 +96,7 @@ short_there F of from to gap total (p ∷ ps) S =
       short = S.short;
     }
 
-pub never_short : (F : InForce) (of : Run → Steps) → Even of → (R : Placing) → Rival F R → All (λ r. Within (length_of F R r) (of r)) (runs_of F) →
+pub never_short : (F : InForce) (of : Run → Steps) → Even of → (R : Placing) → Rival F R → AllByRecursion (λ r. Within (length_of F R r) (of r)) (runs_of F) →
     (from to gap total : ℕ) (pillars : List ℕ) → TooShort F of from to gap total pillars → ⊥
 never_short F of even R sites h from to gap total pillars S =
     short_rules_out_lem (network_of F of) from to pillars gap total (short_there F of from to gap total pillars S) (readings R)
@@ -117,24 +117,24 @@ clash_none F from to gap total pillars S R sites keeps =
     never_short F (run_limit F) (limit_even F) R sites (All-weaker _ _ (λ r. within_limit (run_terms F r).limit (length_of F R r)) (runs_of F) keeps) from to gap total pillars S
 
 -- the greatest of some numbers is at most L if and only if each of them is
-bounded : (f : Run → ℕ) (L : ℕ) (rs : List Run) → greatest (map f rs) ≤ L → All (λ r. f r ≤ L) rs
+bounded : (f : Run → ℕ) (L : ℕ) (rs : List Run) → greatest (map f rs) ≤ L → AllByRecursion (λ r. f r ≤ L) rs
 bounded f L [] h = tt
 bounded f L (r ∷ rs) h = (omega arith, bounded f L rs (omega arith))
 
-bounds : (f : Run → ℕ) (L : ℕ) (rs : List Run) → All (λ r. f r ≤ L) rs → greatest (map f rs) ≤ L
+bounds : (f : Run → ℕ) (L : ℕ) (rs : List Run) → AllByRecursion (λ r. f r ≤ L) rs → greatest (map f rs) ≤ L
 bounds f L [] h = omega arith
 bounds f L (r ∷ rs) h = omega (arith, h.0, bounds f L rs h.1)
 
-all_both : (P Q S : Run → Type 0) → ((r : Run) → P r → Q r → S r) → (rs : List Run) → All P rs → All Q rs → All S rs
+all_both : (P Q S : Run → Type 0) → ((r : Run) → P r → Q r → S r) → (rs : List Run) → AllByRecursion P rs → AllByRecursion Q rs → AllByRecursion S rs
 all_both P Q S f [] h k = tt
 all_both P Q S f (r ∷ rs) h k = (f r h.0 k.0, all_both P Q S f rs h.1 k.1)
 
-pub within_reach : (F : InForce) (R : Placing) (L : ℕ) → KeepsLimits F R → level_of F R ≤ L → All (λ r. Within (length_of F R r) (reach_of F L r)) (runs_of F)
+pub within_reach : (F : InForce) (R : Placing) (L : ℕ) → KeepsLimits F R → level_of F R ≤ L → AllByRecursion (λ r. Within (length_of F R r) (reach_of F L r)) (runs_of F)
 within_reach F R L keeps low =
     all_both _ _ _ (λ r k c. (reach_exact (run_terms F r) L).enough (omega arith) (length_of F R r) c k) (runs_of F) keeps (bounded (price_of F R) L (runs_of F) low)
 
-pub keeps_within : (F : InForce) (P : Placing) (L : ℕ) → All (λ r. (run_terms F r).fixed ≤ L) (runs_of F) →
-    All (λ r. Within (length_of F P r) (reach_of F L r)) (runs_of F) → KeepsLimits F P × (level_of F P ≤ L)
+pub keeps_within : (F : InForce) (P : Placing) (L : ℕ) → AllByRecursion (λ r. (run_terms F r).fixed ≤ L) (runs_of F) →
+    AllByRecursion (λ r. Within (length_of F P r) (reach_of F L r)) (runs_of F) → KeepsLimits F P × (level_of F P ≤ L)
 keeps_within F P L fixed h = (
   All-weaker _ _ (λ r w. (reach_exact (run_terms F r) L).kept (length_of F P r) w) (runs_of F) h,
   bounds (price_of F P) L (runs_of F) (all_both _ _ _ (λ r f w. (reach_exact (run_terms F r) L).cheap f (length_of F P r) w) (runs_of F) fixed h),
@@ -150,8 +150,8 @@ chain_floor F L from to gap total pillars some S R sites keeps =
 pub fixed_floor : (F : InForce) (L : ℕ) (r : Run) → FirstWith (λ s. (run_terms F s).fixed ≡ L) (runs_of F) r → NoneLower F L
 fixed_floor F L r W R sites keeps =
     let P : Run → Type 0 = λ s. price_of F R s ≤ level_of F R in
-    let prices : All P (runs_of F) = bounded (price_of F R) (level_of F R) (runs_of F) (omega arith) in
-    let price : P r = (last_part P W.before (r ∷ W.after) (subst (All P) W.split prices)).0 in
+    let prices : AllByRecursion P (runs_of F) = bounded (price_of F R) (level_of F R) (runs_of F) (omega arith) in
+    let price : P r = (last_part P W.before (r ∷ W.after) (subst (AllByRecursion P) W.split prices)).0 in
     omega (arith, W.holds)
 
 -- two halves whose sum is even are of one parity
@@ -167,7 +167,7 @@ one_parity a b s e = parts _ _ _ _ (ap nat_abs (sym e) ∙ double_size s) (sum_p
     parts : (m n k l : ℕ) → m ≡ k + k → m % 2 ≡ (n + l) % 2 → n % 2 ≡ l % 2
     parts m n k l e f = omega arith
 
-pub found_from : (F : InForce) (L : ℕ) (N : Layout) → Models F (reach_of F L) N → Footed F N → All (λ r. (run_terms F r).fixed ≤ L) (runs_of F) →
+pub found_from : (F : InForce) (L : ℕ) (N : Layout) → Models F (reach_of F L) N → Footed F N → AllByRecursion (λ r. (run_terms F r).fixed ≤ L) (runs_of F) →
     (at : ℕ → ℤ × ℤ) (P : Placing) → length P ≡ F.count → ReadAs F P at → Greatest N at → Found F L P
 found_from F L N M foot fixed at P long read G =
     let kept : KeepsLimits F P × (level_of F P ≤ L) = keeps_within F P L fixed (meets_all F (reach_of F L) N M P at read G.meets) in

@@ -1,6 +1,6 @@
 -- Placings of a plan's pillars, what they cost, and the least level.
 use Rattle.std.specs.Prelude.{◌≡◌, ℕ, ◌<◌, ◌≤◌, max, List, [], ◌∷◌, map, length, ℤ, ◌≤ℤ◌, Some, None, Option, slice_index_or}
-use Rattle.std.specs.List.{AllByRecursion as All}
+use Rattle.std.specs.List.{AllByRecursion}
 use Rattle.yard.specs.Grid.{IsReading}
 use Rattle.yard.specs.declared.force.InForce.{InForce}
 use Rattle.yard.specs.declared.force.Run.{Run}
@@ -38,11 +38,11 @@ level_of F P = greatest (map (price_of F P) (runs_of F))
 
 -- no run is longer than its limit
 abbrev pub KeepsLimits : InForce → Placing → Type 0
-KeepsLimits F P = All (λ r. KeepsLimit (length_of F P r) (run_terms F r).limit) (runs_of F)
+KeepsLimits F P = AllByRecursion (λ r. KeepsLimit (length_of F P r) (run_terms F r).limit) (runs_of F)
 
 -- any placing at all: one site a pillar, however far out
 abbrev pub Rival : InForce → Placing → Type 0
-Rival F P = (length P ≡ F.count) × All OnTrenches P
+Rival F P = (length P ≡ F.count) × AllByRecursion OnTrenches P
 
 -- no placing keeps all limits
 abbrev pub NoneKeeps : InForce → Type 0
@@ -55,7 +55,7 @@ BetweenMasts F of s =
 
 -- the field: by sum and by difference between the masts
 abbrev pub InTheField : InForce → Placing → Type 0
-InTheField F P = All (λ s. BetweenMasts F twice_sum s × BetweenMasts F twice_difference s) P
+InTheField F P = AllByRecursion (λ s. BetweenMasts F twice_sum s × BetweenMasts F twice_difference s) P
 
 -- no placing that keeps all limits has a lower level
 abbrev pub NoneLower : InForce → ℕ → Type 0

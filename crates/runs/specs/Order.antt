@@ -1,6 +1,6 @@
 -- The runs of a plan in run order, and their terms.
 use Rattle.std.specs.Prelude.{◌≡◌, ℕ, zero, suc, min, max, List, [], ◌∷◌, ◌++◌, Some, None, Option}
-use Rattle.std.specs.List.{AllByRecursion as All}
+use Rattle.std.specs.List.{AllByRecursion}
 use Rattle.yard.specs.declared.force.InForce.{InForce}
 use Rattle.yard.specs.declared.force.Mast.{Mast}
 use Rattle.yard.specs.declared.force.Terms.{Terms}
@@ -53,5 +53,5 @@ pub record FirstWith (P : Run → Type 0) (all : List Run) (r : Run) : Type 0 wh
   pub before : List Run
   pub after : List Run
   pub split : all ≡ before ++ (r ∷ after)
-  pub none_before : All (λ s. P s → ⊥) before
+  pub none_before : AllByRecursion (λ s. P s → ⊥) before
   pub holds : P r

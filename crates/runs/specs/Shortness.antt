@@ -1,6 +1,6 @@
 -- Chains of runs between two masts, and when one is too short.
 use Rattle.std.specs.Prelude.{◌≡◌, ℕ, ◌<◌, List, [], ◌∷◌, map, length, Some, None, Option}
-use Rattle.std.specs.List.{AllByRecursion as All}
+use Rattle.std.specs.List.{AllByRecursion}
 use Rattle.chains.specs.declared.measure.Steps.{Steps}
 use Rattle.chains.specs.declared.measure.Steps.TheVariants.{Unlimited}
 use Rattle.chains.specs.Chains.{Different}
@@ -44,7 +44,7 @@ pub record TooShort (F : InForce) (of : Run → Steps) (from to gap total : ℕ)
   pub from_stands : StandsAt F from here
   pub to_stands : StandsAt F to there
   pub some_pillar : 0 < length pillars
-  pub in_plan : All (λ p. p < F.count) pillars
+  pub in_plan : AllByRecursion (λ p. p < F.count) pillars
   pub different : Different pillars
   pub gap_is : gap ≡ steps_between here there
   pub total_is : AddTo (map of (chain_runs from pillars to)) total

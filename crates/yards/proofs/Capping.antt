@@ -1,6 +1,6 @@
 -- How large a pillar's sum or difference can be at a level: up to the field's edge, or as far as a chain from a mast leads.
 use Rattle.std.proofs.Common.{◌≡◌, ℕ, ◌+◌, ◌<◌, ◌≤◌, List, [], ◌∷◌, ℤ, pos, ◌+ℤ◌, ◌-ℤ◌, nat_abs, ◌≤ℤ◌, Some, None, Option, ◌∙◌, subst, arith}
-use Rattle.std.specs.List.{AllByRecursion as All}
+use Rattle.std.specs.List.{AllByRecursion}
 use Rattle.std.proofs.ByRecursion.{All-get_or}
 use Rattle.std.proofs.lemmas.Int.{ints}
 use Rattle.chains.specs.declared.measure.Steps.TheVariants.{Limited}
@@ -80,7 +80,7 @@ module _ (F : InForce) (L : ℕ) (a : Axis) (p : ℕ) (z : ℤ) (in_p : p < F.co
   reading : (R : Placing) → Eligible F L R → (q : ℕ) → q < F.count → a.once (readings R q) +ℤ a.once (readings R q) ≡ a.twice (site_at R q)
   reading R E q u = a.double (site_at R q) (readings R q) (readings_read F R E.sites q u)
 
-  pub at_edge : All (Under a z) F.masts → Capped F L a p z
+  pub at_edge : AllByRecursion (Under a z) F.masts → Capped F L a p z
   at_edge h R E =
       let b = (a.field F (site_at R p) (All-get_or _ R p origin (omega (arith, E.sites.0)) E.in_field)).1 in
       transitive _ _ _ b.3 (All-get_or (Under a z) F.masts b.0 None ((network_models F (reach_of F L)).covers b.0 b.1 b.2) h b.1 b.2)

@@ -1,6 +1,6 @@
 -- The check of a worked yard by a certificate: it gives a proof that the yard is right, or nothing.
 use Rattle.std.proofs.Common.{◌≡◌, ℕ, ◌+◌, ◌-◌, ◌*◌, ◌%◌, ◌<◌, ◌≤◌, List, [], ◌∷◌, ◌++◌, map, length, get_or, drop, ℤ, pos, nat_abs, ◌≤ℤ◌, Some, None, Ok, Err, Option, Result, sym, refl, ap, ◌∙◌, subst, inr, arith}
-use Rattle.std.specs.List.{AllByRecursion as All}
+use Rattle.std.specs.List.{AllByRecursion}
 use Rattle.std.proofs.lemmas.List.{length-replicate}
 use Rattle.chains.specs.Chains.{Different}
 use Rattle.chains.specs.declared.measure.Steps.{Steps}
@@ -262,7 +262,7 @@ right y c =
     answers (yard_force y) y.place y.halves y.reason y.pillars c d then λ a. Some (record { taken = taken; placed = a.0; reasoned = a.1 })
 
 -- each yard of a table by its certificate
-abbrev pub each_right : (ys : List WorkedYard) → List Certificate → Option (All RightYard ys)
+abbrev pub each_right : (ys : List WorkedYard) → List Certificate → Option (AllByRecursion RightYard ys)
 each_right [] [] = Some tt
 each_right [] (c ∷ cs) = None
 each_right (y ∷ ys) [] = None

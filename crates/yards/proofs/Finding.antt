@@ -1,7 +1,7 @@
 -- Tests that give a proof of what they test, or nothing.
 use Rattle.std.proofs.Common.{◌≡◌, ℕ, zero, suc, ◌<◌, ◌≤◌, Bool, true, false, not, T, eqb, ltb, leb, List, [], ◌∷◌, ℤ, ◌≤ℤ◌, is_some, Some, None, Option, sym, refl, subst, ⊎_elim, arith}
 use lib.Signed.{le_z, le_z_yes}
-use Rattle.std.specs.List.{AllByRecursion as All}
+use Rattle.std.specs.List.{AllByRecursion}
 use Rattle.chains.specs.declared.measure.Steps.{Steps}
 use Rattle.chains.specs.declared.measure.Steps.TheVariants.{Limited, Unlimited}
 use Rattle.yard.specs.declared.force.InForce.{InForce}
@@ -42,7 +42,7 @@ abbrev pub no_higher : (a b : ℤ) → Option (a ≤ℤ b)
 no_higher a b = when (le_z a b) (λ e. le_z_yes (subst T (sym e) tt))
 
 -- a test of each entry of a list, of each number below n, and of the entries until one passes
-abbrev pub each : {X : Type 0} (P : X → Type 0) → ((x : X) → Option (P x)) → (xs : List X) → Option (All P xs)
+abbrev pub each : {X : Type 0} (P : X → Type 0) → ((x : X) → Option (P x)) → (xs : List X) → Option (AllByRecursion P xs)
 each P test [] = Some tt
 each P test (x ∷ xs) = test x then λ p. each P test xs then λ ps. Some (p, ps)
 

@@ -1,6 +1,6 @@
 -- Worked yards: edits of a new plan, and what Place and Why answer after them.
 use Rattle.std.specs.Prelude.{◌≡◌, ℕ, ◌*◌, List, [], ◌∷◌, ◌++◌, length, drop, replicate, ℤ, pos, negsuc, Ok, Err, Result}
-use Rattle.std.specs.List.{AllByRecursion as All}
+use Rattle.std.specs.List.{AllByRecursion}
 use Rattle.yard.specs.declared.edit.EntryTerms.{EntryTerms}
 use Rattle.yard.specs.declared.edit.Edit.{Edit}
 use Rattle.yard.specs.declared.edit.Edit.TheVariants.{Open, Raise, Feeder, Link}
@@ -158,4 +158,4 @@ worked_yards =
 
 -- the whole table is right
 abbrev pub WorkedYardsRight : Type 0
-WorkedYardsRight = All RightYard worked_yards
+WorkedYardsRight = AllByRecursion RightYard worked_yards
