@@ -1,7 +1,6 @@
 -- The fields of a frame: numbers big-endian, signed ones in two's complement.
 use Rattle.std.specs.Prelude.{ℕ, ◌/◌, ◌%◌, List, [], ◌∷◌, ◌++◌}
-use Rattle.std.proofs.Common.{of_z}
-use Rattle.std.specs.Int.{w32}
+use Rattle.std.specs.Int.{cast_unsigned, w32}
 use Rattle.frames.specs.declared.field.Field.{Field}
 use Rattle.frames.specs.declared.field.Field.TheVariants.{Byte, Half, Word, Signed}
 
@@ -15,7 +14,7 @@ abbrev pub spell_field : Field → List ℕ
 spell_field (Byte n) = n ∷ []
 spell_field (Half n) = two_bytes n
 spell_field (Word n) = four_bytes n
-spell_field (Signed z) = four_bytes (of_z w32 z)
+spell_field (Signed z) = four_bytes (cast_unsigned w32 z)
 
 abbrev pub spelled : List Field → List ℕ
 spelled [] = []

@@ -1,8 +1,7 @@
 // A call from its kind and the bytes of its fields.
 
 ghost use Rattle.std.specs.Prelude.{◌≡◌, [], ◌∷◌, length};
-ghost use Rattle.std.proofs.Common.{of_z};
-ghost use Rattle.std.specs.Int.{w32};
+ghost use Rattle.std.specs.Int.{cast_unsigned, w32};
 ghost use Rattle.frames.specs.Fields.{two_bytes, four_bytes};
 ghost use Rattle.frames.specs.Reading.{Decoded, Decodes};
 
@@ -22,7 +21,7 @@ fn word(b3: u8, b2: u8, b1: u8, b0: u8) -> u32
 }
 
 fn signed(b3: u8, b2: u8, b1: u8, b0: u8) -> i32
-    ensures { four_bytes (of_z w32 result) ≡ b3 ∷ b2 ∷ b1 ∷ b0 ∷ [] }
+    ensures { four_bytes (cast_unsigned w32 result) ≡ b3 ∷ b2 ∷ b1 ∷ b0 ∷ [] }
 {
     i32::from_be_bytes([b3, b2, b1, b0])
 }

@@ -1,5 +1,5 @@
 -- A line as the code holds it, and what is asked and answered about it. Assumes nothing.
-use Rattle.std.specs.Prelude.{◌≡◌, ℕ, ◌<◌, ◌≤◌, List, length, get_or, Ok, Err, Result, slice_index, slice_index_or}
+use Rattle.std.specs.Prelude.{◌≡◌, ℕ, ◌<◌, ◌≤◌, List, length, Ok, Err, Result, slice_index, slice_index_or}
 use Rattle.chains.specs.Measures.{no_steps, add_steps, fewer}
 use Rattle.chains.specs.Chains.{BestFound}
 use Rattle.chains.specs.declared.measure.Steps.{Steps}
@@ -31,7 +31,7 @@ pub record Searched (l : Line) (first best : List Steps) (before : List ℕ) : T
   pub best_long : length best ≡ l.pillars
   pub before_long : length before ≡ l.pillars
   pub starts : (j : ℕ) → j < l.pillars → Start l.points l.width l.at (λ i. l.feeder i j) (slice_index_or first j no_steps)
-  pub found : BestFound add_steps fewer (λ v. get_or first v no_steps) l.link l.pillars (λ v. get_or best v no_steps) (λ v. slice_index before v)
+  pub found : BestFound add_steps fewer (λ v. slice_index_or first v no_steps) l.link l.pillars (λ v. slice_index_or best v no_steps) (λ v. slice_index before v)
 
 -- the search is done, and the best chain to the pillar j ends too low for the point i
 pub record HeldDown (places : List ℕ) (width : ℕ) (feeders links : List (List Steps)) (first best : List Steps) (before : List ℕ) (i j : ℕ) : Type 0 where
