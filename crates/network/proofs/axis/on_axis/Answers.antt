@@ -1,4 +1,4 @@
-use Rattle.std.proofs.Common.{◌≡◌, length, get_or, pos, arith, w64, SFits, rules}
+use Rattle.std.proofs.Common.{◌≡◌, ℕ, ◌<◌, length, get_or, pos, ◌+ℤ◌, ap, ◌∙◌, arith, w64, SFits, rules}
 use Rattle.std.proofs.lemmas.Int.{to_z-of_z}
 use Rattle.network.proofs.OneAxis.{on_near, low_near, lifted_by, shaped, places_near, axis_solved, axis_short}
 use Rattle.network.proofs.axis.on_axis.Goals as goal
@@ -10,7 +10,7 @@ lift-requires c =
       room = omega arith;
       order = rw (to_z-of_z w64 c.lowest-low.result f) c.lowest-low.ensures.bound;
       near = on_near c.requires c.args.axis;
-      low = rw (to_z-of_z w64 c.lowest-low.result f) (low_near c.requires c.args.axis c.lowest-low.ensures);
+      low = search rules;
     }
 
 pub highest-requires : goal.highest-requires
@@ -25,7 +25,7 @@ positions-requires c =
     let long : length c.lift.new.places ≡ length c.args.points.now = omega arith in
     let D = lifted_by c.requires c.args.axis c.lowest-low.result f c.lowest-low.ensures c.lift.new.places long c.lift.ensures c.widest-width.result c.widest-width.ensures in
     record {
-      low = rw (to_z-of_z w64 c.lowest-low.result f) (low_near c.requires c.args.axis c.lowest-low.ensures);
+      low = search (rules, low_near c.requires c.args.axis c.lowest-low.ensures);
       few = c.requires.few;
       near = places_near D (λ j. get_or c.in-Ok.found j 0) c.in-Ok.ensures;
     }
@@ -35,7 +35,8 @@ returns-in-Ok c =
     let f : SFits w64 c.lowest-low.result = search rules in
     let long : length c.lift.new.places ≡ length c.args.points.now = omega arith in
     let D = lifted_by c.requires c.args.axis c.lowest-low.result f c.lowest-low.ensures c.lift.new.places long c.lift.ensures c.widest-width.result c.widest-width.ensures in
-    let at = rw (to_z-of_z w64 c.lowest-low.result f) at c.positions.ensures.at in
+    let at : (j : ℕ) → j < length c.args.links.now → get_or c.positions.result j (pos 0) ≡ c.lowest-low.result +ℤ pos (get_or c.in-Ok.found j 0) =
+    λ j h. c.positions.ensures.at j h ∙ ap (λ z. z +ℤ pos (get_or c.in-Ok.found j 0)) (to_z-of_z w64 c.lowest-low.result f) in
     (axis_solved D (λ j. get_or c.in-Ok.found j 0) c.in-Ok.ensures (λ j. get_or c.positions.result j (pos 0)) at, c.positions.ensures.behind)
 
 pub returns-in-Err : goal.returns-in-Err
