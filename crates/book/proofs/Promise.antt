@@ -1,5 +1,6 @@
 -- Complete pages promise what they should: bookkeeping, and that a clash rules out all placings.
-use Rattle.std.proofs.Common.{◌≡◌, ℕ, zero, suc, ◌*◌, ◌≤◌, List, [], ◌∷◌, ◌++◌, length, take, drop, ℤ, Ok, Err, Result, sym, refl, ap, ◌∙◌, subst, inl, inr, arith}
+use Rattle.std.proofs.Common.{◌≡◌, ℕ, zero, suc, ◌*◌, ◌≤◌, List, [], ◌∷◌, ◌++◌, length, take, drop, ℤ, Ok, Err, Result, sym, refl, ap, ◌∙◌, inl, inr, arith}
+use Rattle.std.proofs.lemmas.List.{take_at}
 use Rattle.yard.specs.declared.force.InForce.{InForce}
 use Rattle.yard.specs.declared.fault.Refusal.{Refusal}
 use Rattle.yard.specs.Force.{opened_at}
@@ -18,17 +19,10 @@ pub sites_halves : (P : Placing) (rest : List ℤ) (n : ℕ) → length P ≡ n 
 sites_halves [] rest zero e = refl
 sites_halves [] rest (suc n) e = absurd (omega arith)
 sites_halves (s ∷ P) rest zero e = absurd (omega arith)
-sites_halves (s ∷ P) rest (suc n) e = ap {B = Placing} (λ Q. s ∷ Q) (sites_halves P rest n (omega arith))
-
-take_head : (xs ys : List ℕ) (n : ℕ) → n ≡ length xs → take n (xs ++ ys) ≡ xs
-take_head xs ys n e = rw e (go xs)
-  where
-    go : (zs : List ℕ) → take (length zs) (zs ++ ys) ≡ zs
-    go [] = refl
-    go (z ∷ zs) = ap {B = List ℕ} (λ l. z ∷ l) (go zs)
+sites_halves (s ∷ P) rest (suc n) e = ap (λ Q. s ∷ Q) (sites_halves P rest n (omega arith))
 
 err_ok : {A B : Type 0} {a : A} {b : B} → ◌≡◌ {A = Result A B} (Err b) (Ok a) → ⊥
-err_ok e = let z : ◌≡◌ {A = ℕ} 0 1 = cc in omega arith
+err_ok e = cc
 
 -- nothing bars a plan with a mast and no loose pillar, on a list that is long enough
 bars_none : (F : InForce) (need room : ℕ) (r : Refusal) → Bars F need room r → Ready F → need ≤ room → ⊥
@@ -48,7 +42,7 @@ place_holds F n before (Ok M) hs e (y, k, (P, d, w)) = record {
     here = ap (sites_in F.count) w ∙ sites_halves P (drop (2 * F.count) before) F.count d.sites.0
 
     got : (L : ℕ) → ◌≡◌ {A = Result ℕ Refusal} (Ok M) (Ok L) → Placed F L (sites_in F.count hs)
-    got L q = let m : M ≡ L = cc in subst (λ (l : ℕ). Placed F l (sites_in F.count hs)) m (subst (λ (Q : Placing). Placed F M Q) (sym here) d)
+    got L q = let m : M ≡ L = cc in rw (← m, here) d
 place_holds F n before (Err r) hs e (w, h) = record {
   sites = λ L q. absurd (err_ok q);
   rivals = λ L q. absurd (err_ok q);
@@ -84,10 +78,10 @@ why_holds F n before (Ok a) bs e (y, k, (ps, d, l, w)) = record {
 }
   where
     here : take (count_told a) bs ≡ ps
-    here = ap (take (count_told a)) w ∙ take_head ps (drop (length ps) before) (count_told a) l
+    here = ap (take (count_told a)) w ∙ take_at ps (drop (length ps) before) (count_told a) (sym l)
 
     got : (b : Reason) → ◌≡◌ {A = Result Reason Refusal} (Ok a) (Ok b) → Reasoned F b (take (count_told b) bs)
-    got b q = let m : a ≡ b = cc in subst (λ (z : Reason). Reasoned F z (take (count_told z) bs)) m (subst (λ (l : List ℕ). Reasoned F a l) (sym here) d)
+    got b q = let m : a ≡ b = cc in rw (← m, here) d
 why_holds F n before (Err r) bs e (w, h) = record {
   answers = λ y k. absurd (bars_none F F.count (length before) r h y (omega arith));
   reasoned = λ b q. absurd (err_ok q);
@@ -105,5 +99,4 @@ on_page F (p ∷ ps) rest g h = on_page (after_page F p) ps rest g h.1
 
 pub site_book : SiteBook
 site_book written F done before rest g e =
-    let from : HonestFrom (opened_at 1) (before ++ (g ∷ rest)) = subst (λ (gs : List SitePage). HonestFrom (opened_at 1) gs) e done.all_honest in
-    ∣ page_holds (in_force_from (opened_at 1) before) g (on_page (opened_at 1) before rest g from) ∣₁
+    ∣ page_holds (in_force_from (opened_at 1) before) g (on_page (opened_at 1) before rest g (rw e at done.all_honest)) ∣₁

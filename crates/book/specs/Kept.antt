@@ -7,8 +7,8 @@ use Rattle.book.specs.Pages.{SitePage, edited_by, placed_on, asked_on, entry_tol
 
 abbrev pub page_of : Page → SitePage
 page_of (Edited e a) = edited_by e (entry_told a)
-page_of (Placed n a l) = placed_on n (place_told a) (vec_items l)
-page_of (Asked n a l) = asked_on n (why_told a) (vec_items l)
+page_of (Placed c) = placed_on c.room (place_told c.answer) (vec_items c.list)
+page_of (Asked c) = asked_on c.room (why_told c.answer) (vec_items c.list)
 
 abbrev pub pages_of : List Page → List SitePage
 pages_of = map page_of

@@ -3,7 +3,7 @@ use Rattle.std.specs.Prelude.{◌≡◌, ℕ, zero, suc, ◌*◌, ◌<◌, ◌�
 use Rattle.network.specs.Chain.{AddTo}
 use Rattle.yard.specs.declared.force.InForce.{InForce}
 use Rattle.yard.specs.declared.fault.Refusal.{Refusal}
-use Rattle.yard.specs.declared.fault.Layer.TheVariants as layer
+use Rattle.yard.specs.declared.fault.Rule.TheVariants as rule
 use Rattle.yard.specs.Force.{opened_at}
 use Rattle.yard.specs.Rows.{refusal_of}
 use Rattle.yard.specs.Edits.{answered}
@@ -35,7 +35,7 @@ pub record PlaceHolds (F : InForce) (n : ℕ) (a : Result ℕ Refusal) (hs : Lis
   pub largest : (L : ℕ) → a ≡ Ok L →
       (R : Placing) → Rival F R → InTheField F R → KeepsLimits F R → level_of F R ≡ L → NoLarger F R (sites_in F.count hs)
   pub refuses : Ready F → 2 * F.count ≤ n →
-      ((a ≡ Err (refusal_of layer.Placing 15 0)) × NoneKeeps F) ⊎ (((L : ℕ) × (a ≡ Ok L)) × (NoneKeeps F → ⊥))
+      ((a ≡ Err (refusal_of rule.Unkept 0)) × NoneKeeps F) ⊎ (((L : ℕ) × (a ≡ Ok L)) × (NoneKeeps F → ⊥))
 
 abbrev pub IsClash : Reason → Type 0
 IsClash Floor = ⊥

@@ -5,21 +5,21 @@ use placing::fault::{Barred, PlaceFault};
 use yard::edit::Edit;
 use yard::fault::EntryFault;
 
-// A call with its answer. Of a call on a list the page has the length of that list, and a copy of it after the call.
+// A call on a list: the length of that list, the call's answer, and a copy of the list after the call.
+#[derive(Drop)]
+pub struct ListCall<A, T> {
+    pub room: usize,
+    pub answer: A,
+    pub list: Vec<T>,
+}
+
+// A call with its answer.
 #[derive(Drop)]
 pub enum Page {
     Edited {
         edit: Edit,
         answer: Result<(), EntryFault>,
     },
-    Placed {
-        room: usize,
-        answer: Result<u32, PlaceFault>,
-        list: Vec<i32>,
-    },
-    Asked {
-        room: usize,
-        answer: Result<Reason, Barred>,
-        list: Vec<u8>,
-    },
+    Placed(ListCall<Result<u32, PlaceFault>, i32>),
+    Asked(ListCall<Result<Reason, Barred>, u8>),
 }

@@ -1,10 +1,9 @@
 -- A chain from its last pillar back, and from its first one on. Assumes nothing.
-use Rattle.std.proofs.Common.{◌≡◌, ℕ, ◌<◌, Bool, List, [], ◌∷◌, reverse, sym, refl, ap, ◌∙◌, subst, arith}
+use Rattle.std.proofs.Common.{◌≡◌, ℕ, ◌<◌, Bool, List, [], ◌∷◌, reverse, sym, refl, ap, ◌∙◌, subst}
 use mathlib.Core.List.{reverse_aux}
-use lib.ListN.{length-reverse}
 use Rattle.std.specs.List.{AllByRecursion}
 use Rattle.chains.specs.Chains.{chain_value, Different, Leads, BestFound, ReadOut, pillar_at}
-use Rattle.chains.specs.Along.{value_onward, value_along, last_of, BestTo, BestWritten}
+use Rattle.chains.specs.Along.{value_onward, value_along, last_of, BestTo}
 use Rattle.chains.proofs.Reversed.{all_reversed, different_reversed}
 use Rattle.chains.proofs.Reading.{told_once}
 
@@ -34,13 +33,8 @@ module _ {M : Type 0} (op : M → M → M) (first : ℕ → M) (run : ℕ → �
       }
 
   -- the chain that is read out of a search's table is a best one
-  pub best_written : (leq : M → M → Bool) (n : ℕ) (best : ℕ → M) (before : List ℕ) → BestFound op leq first run n best (pillar_at before) → (v : ℕ) → v < n → (x : M) → x ≡ best v → (count : ℕ) (was list : List ℕ) → ReadOut before v count was list → BestWritten op leq first run n v x count was list
-  best_written leq n best before F v h x x_is count was list R =
+  pub best_read : (leq : M → M → Bool) (n : ℕ) (best : ℕ → M) (before : List ℕ) → BestFound op leq first run n best (pillar_at before) → (v : ℕ) → v < n → (x : M) → x ≡ best v → (pillars : List ℕ) → ReadOut before v pillars → BestTo op leq first run n v x pillars
+  best_read leq n best before F v h x x_is pillars R =
       let f = F.some v h in
       let same : R.passed ≡ f.0 = told_once (pillar_at before) v v R.passed f.0 refl R.traced.told f.1.traced.told in
-      record {
-        pillars = reverse (v ∷ R.passed);
-        best = best_to leq n best (pillar_at before) F v h f.0 f.1 x x_is (reverse (v ∷ R.passed)) (ap (λ c. reverse (v ∷ c)) same);
-        long = omega (arith, R.long, length-reverse (v ∷ R.passed));
-        written = R.written;
-      }
+      best_to leq n best (pillar_at before) F v h f.0 f.1 x x_is pillars (R.told ∙ ap (λ c. reverse (v ∷ c)) same)

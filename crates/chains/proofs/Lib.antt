@@ -1,7 +1,4 @@
 pub mod State
-pub mod MarksTable
-pub mod Offer
-pub mod Nearest
 pub mod Open
 pub mod Tables
 pub mod Reading

@@ -2,13 +2,10 @@
 use Rattle.std.proofs.Common.{ℕ, ◌≢◌, List, [], ◌∷◌, reverse, sym}
 use mathlib.Core.List.{reverse_aux}
 use Rattle.std.specs.List.{AllByRecursion}
-use Rattle.std.proofs.ByRecursion.{All-weaker}
+use Rattle.std.proofs.ByRecursion.{All-weaker, all_shuffled}
+use Rattle.std.proofs.lemmas.List.Sorted.{IsPermutation-reverse}
 use Rattle.chains.specs.Chains.{Different}
 use Rattle.chains.proofs.State.{both_all}
-
-all_back : (P : ℕ → Type 0) (c ps : List ℕ) → AllByRecursion P c → AllByRecursion P ps → AllByRecursion P (reverse_aux c ps)
-all_back P [] ps h k = k
-all_back P (u ∷ c) ps h k = all_back P c (u ∷ ps) h.1 (h.0, k)
 
 -- no pillar of c is one of ps
 different_back : (c ps : List ℕ) → Different c → Different ps → AllByRecursion (λ q. AllByRecursion (λ p. p ≢ q) ps) c → Different (reverse_aux c ps)
@@ -22,7 +19,7 @@ all_trivial [] = tt
 all_trivial (u ∷ c) = (tt, all_trivial c)
 
 pub all_reversed : (P : ℕ → Type 0) (c : List ℕ) → AllByRecursion P c → AllByRecursion P (reverse c)
-all_reversed P c h = all_back P c [] h tt
+all_reversed P c h = all_shuffled P c (reverse c) (IsPermutation-reverse c) h
 
 pub different_reversed : (c : List ℕ) → Different c → Different (reverse c)
 different_reversed c h = different_back c [] h tt (all_trivial c)

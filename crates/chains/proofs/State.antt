@@ -24,7 +24,7 @@ pub record State {M : Type 0} (op : M → M → M) (leq : M → M → Bool) (fir
   pub entered : (v : ℕ) → v < n → leq (best v) (first v) ≡ true
 
 -- `before` may change at pillars that are not on the chain
-told_kept : (f g : ℕ → ℕ) (v : ℕ) (c : List ℕ) → g v ≡ f v → AllByRecursion (λ p. g p ≡ f p) c → Told f v c → Told g v c
+pub told_kept : (f g : ℕ → ℕ) (v : ℕ) (c : List ℕ) → g v ≡ f v → AllByRecursion (λ p. g p ≡ f p) c → Told f v c → Told g v c
 told_kept f g v [] e es t = e ∙ t
 told_kept f g v (u ∷ c) e es t = (e ∙ t.0, t.1, told_kept f g u c es.0 es.1 t.2)
 
@@ -32,9 +32,9 @@ pub both_all : (P Q : ℕ → Type 0) (c : List ℕ) → AllByRecursion P c → 
 both_all P Q [] h k = tt
 both_all P Q (p ∷ c) h k = ((h.0, k.0), both_all P Q c h.1 k.1)
 
-module _ {M : Type 0} {empty : M} {op : M → M → M} {leq : M → M → Bool} (laws : Laws empty op leq) (first : ℕ → M) (run : ℕ → ℕ → M) (n : ℕ) where
-  pub at_start : (best : ℕ → M) (before : ℕ → ℕ) (done : ℕ → Bool) (left : ℕ) → left ≡ n → ((v : ℕ) → v < n → best v ≡ first v) → ((v : ℕ) → v < n → before v ≡ v) → ((v : ℕ) → v < n → done v ≡ false) → State op leq first run n best before done left
-  at_start best before done left all b f d = record {
+module _ {M : Type 0} {empty : M} {op : M → M → M} {leq : M → M → Bool} (laws : Laws empty op leq) {first : ℕ → M} {run : ℕ → ℕ → M} {n : ℕ} {best : ℕ → M} {before : ℕ → ℕ} {done : ℕ → Bool} {left : ℕ} where
+  pub at_start : left ≡ n → ((v : ℕ) → v < n → best v ≡ first v) → ((v : ℕ) → v < n → before v ≡ v) → ((v : ℕ) → v < n → done v ≡ false) → State op leq first run n best before done left
+  at_start all b f d = record {
     ways = λ v h. record {
       c = [];
       chain = tt;
@@ -50,7 +50,7 @@ module _ {M : Type 0} {empty : M} {op : M → M → M} {leq : M → M → Bool} 
     entered = λ v h. rw (b v h) (laws.reflexive (first v));
   }
 
-  module _ (best : ℕ → M) (before : ℕ → ℕ) (done : ℕ → Bool) (left : ℕ) (S : State op leq first run n best before done left) where
+  module _ (S : State op leq first run n best before done left) where
     at_least : (v : ℕ) (c : List ℕ) → ((p : ℕ) → p < n → done p ≡ true) → Chain n v c → leq (best v) (chain_value op first run v c) ≡ true
     at_least v [] all h = S.entered v h.0
     at_least v (u ∷ c) all h =

@@ -1,5 +1,5 @@
 -- Chains as they are read out, from the first pillar p on: p and the list of the further ones. Assumes nothing.
-use Rattle.std.specs.Prelude.{◌≡◌, ℕ, ◌<◌, ◌≤◌, Bool, true, List, [], ◌∷◌, ◌++◌, length, drop}
+use Rattle.std.specs.Prelude.{◌≡◌, ℕ, ◌<◌, Bool, true, List, [], ◌∷◌, length}
 use Rattle.std.specs.List.{AllByRecursion}
 use Rattle.chains.specs.Chains.{Different, PlanFits}
 
@@ -27,15 +27,7 @@ pub record BestTo {M : Type 0} (op : M → M → M) (leq : M → M → Bool) (fi
   pub worth : value_along op first run start rest ≡ x
   pub least : (p : ℕ) (ps : List ℕ) → AllByRecursion (λ q. q < n) (p ∷ ps) → last_of p ps ≡ v → leq x (value_along op first run p ps) ≡ true
 
--- a best chain to v is written at the head of a list, `count` pillars long, and what stood behind it stays
-pub record BestWritten {M : Type 0} (op : M → M → M) (leq : M → M → Bool) (first : ℕ → M) (run : ℕ → ℕ → M) (n v : ℕ) (x : M) (count : ℕ) (was list : List ℕ) : Type 0 where
-  pub pillars : List ℕ
-  pub best : BestTo op leq first run n v x pillars
-  pub long : count ≡ length pillars
-  pub written : list ≡ pillars ++ drop count was
-
--- a plan, one of its pillars, and a list with room for all of them
-pub record AsksFit {M : Type 0} (first : List M) (runs : List (List M)) (v : ℕ) (was : List ℕ) : Type 0 where
+-- a plan, and one of its pillars
+pub record AsksFit {M : Type 0} (first : List M) (runs : List (List M)) (v : ℕ) : Type 0 where
   pub plan : PlanFits first runs
   pub pillar : v < length first
-  pub room : length first ≤ length was

@@ -1,6 +1,6 @@
 -- Chains of pillars, their values, and what a search for the best of them answers. Assumes nothing.
 -- A chain to a pillar v is given by the list of its earlier pillars, the nearest first: `v` and `u ∷ p ∷ []` stand for the chain that is entered at p and goes by u to v.
-use Rattle.std.specs.Prelude.{◌≡◌, ℕ, ◌+◌, ◌<◌, ◌≤◌, Bool, true, ◌≢◌, List, [], ◌∷◌, ◌++◌, reverse, length, drop, slice_index, slice_index_or}
+use Rattle.std.specs.Prelude.{◌≡◌, ℕ, ◌+◌, ◌<◌, ◌≤◌, Bool, true, ◌≢◌, List, [], ◌∷◌, reverse, length, slice_index, slice_index_or}
 use Rattle.std.specs.List.{AllByRecursion}
 
 -- The value of a chain: of entering at its first pillar, joined with each run to the next one. `first p` is the value of entering at p, `run u v` that of the run between u and v.
@@ -54,20 +54,12 @@ pub record PlanFits {M : Type 0} (first : List M) (runs : List (List M)) : Type 
   pub few : length first ≤ 12
   pub rows : length runs ≡ length first
 
--- the tables of a search over a plan: a value and a previous pillar for each pillar
-pub record TablesFit {M : Type 0} (first : List M) (runs : List (List M)) (best : List M) (before : List ℕ) : Type 0 where
-  pub plan : PlanFits first runs
-  pub values : length best ≡ length first
-  pub pillars : length before ≡ length first
-
--- What is read out of the table `before`: the `count` pillars of the chain to v that it tells, from the first on, stand at the head of the list, and what stood behind them stays.
-pub record ReadOut (before : List ℕ) (v count : ℕ) (was list : List ℕ) : Type 0 where
+-- What is read out of the table `before`: the pillars of the chain to v that it tells, from the first on.
+pub record ReadOut (before : List ℕ) (v : ℕ) (pillars : List ℕ) : Type 0 where
   pub passed : List ℕ
   pub traced : Traced (length before) (pillar_at before) v passed
-  pub long : count ≡ length passed + 1
-  pub room : count ≤ length was
-  pub written : list ≡ reverse (v ∷ passed) ++ drop count was
+  pub told : pillars ≡ reverse (v ∷ passed)
 
--- nothing can be read out: `before` tells no chain to v, or none that the list has room for
-abbrev pub Unread : List ℕ → ℕ → List ℕ → Type 0
-Unread before v was = (passed : List ℕ) → Traced (length before) (pillar_at before) v passed → length was < length passed + 1
+-- nothing can be read out: each chain to v that `before` tells has more than `room` pillars
+abbrev pub Unread : List ℕ → ℕ → ℕ → Type 0
+Unread before v room = (passed : List ℕ) → Traced (length before) (pillar_at before) v passed → room < length passed + 1

@@ -1,67 +1,66 @@
 -- Steps are a measure. Assumes nothing.
-use Rattle.std.specs.Prelude.{◌≡◌, true, ◌⊎◌, refl}
+use Rattle.std.specs.Prelude.{◌≡◌, true, ◌⊎◌, refl, Some, None}
 use Rattle.std.proofs.Common.{inl, inr, arith}
 use Rattle.std.proofs.lemmas.Bool.Decides.{nat_tests}
 use Rattle.chains.specs.Laws.{Laws}
 use Rattle.chains.specs.Measures.{no_steps, add_steps, fewer}
-use Rattle.chains.specs.declared.measure.Steps.{Steps}
-use Rattle.chains.specs.declared.measure.Steps.TheVariants.{Limited, Unlimited}
+use Rattle.chains.specs.Measures.{Steps}
 
 left : (x : Steps) → add_steps no_steps x ≡ x
-left (Limited a) = grind (arith, nat_tests)
-left Unlimited = refl
+left (Some a) = grind (arith, nat_tests)
+left None = refl
 
 right : (x : Steps) → add_steps x no_steps ≡ x
-right (Limited a) = grind (arith, nat_tests)
-right Unlimited = refl
+right (Some a) = grind (arith, nat_tests)
+right None = refl
 
 assoc : (x y z : Steps) → add_steps (add_steps x y) z ≡ add_steps x (add_steps y z)
-assoc (Limited a) (Limited b) (Limited c) = grind (arith, nat_tests)
-assoc (Limited a) (Limited b) Unlimited = grind (arith, nat_tests)
-assoc (Limited a) Unlimited z = refl
-assoc Unlimited y z = refl
+assoc (Some a) (Some b) (Some c) = grind (arith, nat_tests)
+assoc (Some a) (Some b) None = grind (arith, nat_tests)
+assoc (Some a) None z = refl
+assoc None y z = refl
 
 reflexive : (x : Steps) → fewer x x ≡ true
-reflexive (Limited a) = grind (arith, nat_tests)
-reflexive Unlimited = refl
+reflexive (Some a) = grind (arith, nat_tests)
+reflexive None = refl
 
 transitive : (x y z : Steps) → fewer x y ≡ true → fewer y z ≡ true → fewer x z ≡ true
-transitive (Limited a) (Limited b) (Limited c) h k = grind (arith, nat_tests)
-transitive (Limited a) Unlimited (Limited c) h k = cc
-transitive (Limited a) (Limited b) Unlimited h k = refl
-transitive (Limited a) Unlimited Unlimited h k = refl
-transitive Unlimited (Limited b) (Limited c) h k = cc
-transitive Unlimited (Limited b) Unlimited h k = refl
-transitive Unlimited Unlimited (Limited c) h k = cc
-transitive Unlimited Unlimited Unlimited h k = refl
+transitive (Some a) (Some b) (Some c) h k = grind (arith, nat_tests)
+transitive (Some a) None (Some c) h k = cc
+transitive (Some a) (Some b) None h k = refl
+transitive (Some a) None None h k = refl
+transitive None (Some b) (Some c) h k = cc
+transitive None (Some b) None h k = refl
+transitive None None (Some c) h k = cc
+transitive None None None h k = refl
 
 antisymmetric : (x y : Steps) → fewer x y ≡ true → fewer y x ≡ true → x ≡ y
-antisymmetric (Limited a) (Limited b) h k = grind (arith, nat_tests)
-antisymmetric (Limited a) Unlimited h k = cc
-antisymmetric Unlimited (Limited b) h k = cc
-antisymmetric Unlimited Unlimited h k = refl
+antisymmetric (Some a) (Some b) h k = grind (arith, nat_tests)
+antisymmetric (Some a) None h k = cc
+antisymmetric None (Some b) h k = cc
+antisymmetric None None h k = refl
 
 total : (x y : Steps) → (fewer x y ≡ true) ⊎ (fewer y x ≡ true)
-total (Limited a) (Limited b) = grind (arith, nat_tests)
-total (Limited a) Unlimited = inl refl
-total Unlimited (Limited b) = inr refl
-total Unlimited Unlimited = inl refl
+total (Some a) (Some b) = grind (arith, nat_tests)
+total (Some a) None = inl refl
+total None (Some b) = inr refl
+total None None = inl refl
 
-to_unlimited : (x : Steps) → fewer x Unlimited ≡ true
-to_unlimited (Limited a) = refl
-to_unlimited Unlimited = refl
+to_unlimited : (x : Steps) → fewer x None ≡ true
+to_unlimited (Some a) = refl
+to_unlimited None = refl
 
 keeps : (x x' y y' : Steps) → fewer x x' ≡ true → fewer y y' ≡ true → fewer (add_steps x y) (add_steps x' y') ≡ true
-keeps x Unlimited y y' h k = to_unlimited (add_steps x y)
-keeps x (Limited a') y Unlimited h k = to_unlimited (add_steps x y)
-keeps (Limited a) (Limited a') (Limited b) (Limited b') h k = grind (arith, nat_tests)
-keeps (Limited a) (Limited a') Unlimited (Limited b') h k = cc
-keeps Unlimited (Limited a') y (Limited b') h k = cc
+keeps x None y y' h k = to_unlimited (add_steps x y)
+keeps x (Some a') y None h k = to_unlimited (add_steps x y)
+keeps (Some a) (Some a') (Some b) (Some b') h k = grind (arith, nat_tests)
+keeps (Some a) (Some a') None (Some b') h k = cc
+keeps None (Some a') y (Some b') h k = cc
 
 further : (x y : Steps) → fewer x (add_steps x y) ≡ true
-further (Limited a) (Limited b) = grind (arith, nat_tests)
-further (Limited a) Unlimited = refl
-further Unlimited y = refl
+further (Some a) (Some b) = grind (arith, nat_tests)
+further (Some a) None = refl
+further None y = refl
 
 pub steps_laws : Laws no_steps add_steps fewer
 steps_laws = record {

@@ -1,23 +1,12 @@
 -- Being tied is a measure. Assumes nothing.
 use Rattle.std.specs.Prelude.{◌≡◌, Bool, true, false, not, ◌&&◌, ◌||◌, ◌⊎◌, refl}
 use Rattle.std.proofs.Common.{ap, inl, inr}
+use Rattle.std.proofs.Math.Bool.{and-true, and_assoc, or-not_self, or-true}
 use Rattle.chains.specs.Laws.{Laws}
 use Rattle.chains.specs.Measures.{no_tie, both_tied, rather, of_yes}
 
 abbrev at_least : Bool → Bool → Bool
 at_least a b = a || not b
-
-and_true : (a : Bool) → (a && true) ≡ a
-and_true true = refl
-and_true false = refl
-
-and_assoc : (a b c : Bool) → ((a && b) && c) ≡ (a && (b && c))
-and_assoc true b c = refl
-and_assoc false b c = refl
-
-refl_at : (a : Bool) → at_least a a ≡ true
-refl_at true = refl
-refl_at false = refl
 
 trans_at : (a b c : Bool) → at_least a b ≡ true → at_least b c ≡ true → at_least a c ≡ true
 trans_at true b c h k = refl
@@ -35,13 +24,9 @@ total_at true b = inl refl
 total_at false true = inr refl
 total_at false false = inl refl
 
-or_true_true : (a : Bool) → (a || true) ≡ true
-or_true_true true = refl
-or_true_true false = refl
-
 keeps_at : (a a' b b' : Bool) → at_least a a' ≡ true → at_least b b' ≡ true → at_least (a && b) (a' && b') ≡ true
 keeps_at true true b b' h k = k
-keeps_at true false b b' h k = or_true_true b
+keeps_at true false b b' h k = or-true b
 keeps_at false true b b' h k = cc
 keeps_at false false b b' h k = refl
 
@@ -52,9 +37,9 @@ further_at false b = refl
 pub tied_laws : Laws no_tie both_tied rather
 tied_laws = record {
   left = λ x. refl;
-  right = λ x. ap of_yes (and_true x.yes);
+  right = λ x. ap of_yes (and-true x.yes);
   assoc = λ x y z. ap of_yes (and_assoc x.yes y.yes z.yes);
-  reflexive = λ x. refl_at x.yes;
+  reflexive = λ x. or-not_self x.yes;
   transitive = λ x y z. trans_at x.yes y.yes z.yes;
   antisymmetric = λ x y h k. ap of_yes (anti_at x.yes y.yes h k);
   total = λ x y. total_at x.yes y.yes;

@@ -1,5 +1,5 @@
 use book::book::Book;
-use placing::answer::Reason;
+use placing::answer::{ChainTold, Reason};
 use placing::fault::{Barred, PlaceFault};
 use std::alloc::AllocError;
 use std::test::Fail;
@@ -41,18 +41,22 @@ fn a_pillar_is_placed_between_two_rates(rt: HostRuntime) -> Result<(), Fail> {
     fed(&mut book, 0, 3, NO_LIMIT)?;
     fed(&mut book, 1, 2, NO_LIMIT)?;
     let mut halves = [7; 3];
-    let level = match book.place(&mut halves)? {
-        Ok(level) => level,
-        Err(_) => 0,
-    };
-    assert_eq!(rt; level, 12);
+    assert_eq!(rt; book.place(&mut halves)?, Ok(12));
     assert!(rt; halves == [8, 0, 7]);
     let mut pillars = [7; 2];
-    let told = match book.why(&mut pillars)? {
-        Ok(Reason::Chain(chain)) => (chain.from, chain.to, chain.gap, chain.total, chain.count),
-        _ => (0, 0, 0, 0, 0),
-    };
-    assert_eq!(rt; told, (0, 1, 10, 8, 1));
+    let told = book.why(&mut pillars)?;
+    assert!(rt;
+        matches!(
+            told,
+            Ok(Reason::Chain(ChainTold {
+                from: 0,
+                to: 1,
+                gap: 10,
+                total: 8,
+                count: 1
+            }))
+        )
+    );
     assert!(rt; pillars == [0, 7]);
     assert_eq!(rt; book.pages().len(), 6);
     Ok(())
@@ -65,18 +69,11 @@ fn limits_that_clash_are_told(rt: HostRuntime) -> Result<(), Fail> {
     fed(&mut book, 0, 0, 4)?;
     fed(&mut book, 1, 0, 5)?;
     let mut halves = [7; 2];
-    let unkept = match book.place(&mut halves)? {
-        Err(PlaceFault::Unkept) => true,
-        _ => false,
-    };
-    assert!(rt; unkept);
+    assert_eq!(rt; book.place(&mut halves)?, Err(PlaceFault::Unkept));
     assert!(rt; halves == [7, 7]);
     let mut pillars = [7; 1];
-    let total = match book.why(&mut pillars)? {
-        Ok(Reason::Clash(chain)) => chain.total,
-        _ => 0,
-    };
-    assert_eq!(rt; total, 9);
+    let told = book.why(&mut pillars)?;
+    assert!(rt; matches!(told, Ok(Reason::Clash(ChainTold { total: 9, .. }))));
     Ok(())
 }
 
@@ -84,11 +81,8 @@ fn limits_that_clash_are_told(rt: HostRuntime) -> Result<(), Fail> {
 fn a_refused_call_has_its_page(rt: HostRuntime) -> Result<(), Fail> {
     let mut book = Book::new(rt.alloc());
     let mut halves = [7; 2];
-    let no_mast = match book.place(&mut halves)? {
-        Err(PlaceFault::Barred(Barred::NoMast)) => true,
-        _ => false,
-    };
-    assert!(rt; no_mast);
+    let no_mast = Err(PlaceFault::Barred(Barred::NoMast));
+    assert_eq!(rt; book.place(&mut halves)?, no_mast);
     assert_eq!(rt; book.pages().len(), 1);
     assert_eq!(rt; book.plan().pillars(), 1);
     Ok(())

@@ -9,10 +9,7 @@ const QUOTED: EntryTerms = EntryTerms {
 };
 
 fn rate(plan: &Plan, run: Run) -> Option<u16> {
-    match plan.terms(run) {
-        Some(terms) => Some(terms.rate),
-        None => None,
-    }
+    plan.terms(run).map(|terms| terms.rate)
 }
 
 #[test]

@@ -4,19 +4,12 @@ use service::serve::serve;
 use std::test::Fail;
 use yard::plan::Plan;
 
-// Whether serving is refused for the buffer's size.
-fn lacks_room(served: Result<usize, ServeFault>) -> bool {
-    match served {
-        Err(ServeFault::Memory) => true,
-        _ => false,
-    }
-}
-
 #[test]
 fn under_512_bytes_nothing_is_done(rt: HostRuntime) {
     let mut plan = Plan::new();
     let mut short = [7; 511];
-    assert!(rt; lacks_room(serve(&mut plan, b"010CF3", &mut short)));
+    let served = serve(&mut plan, b"010CF3", &mut short);
+    assert_eq!(rt; served, Err(ServeFault::Memory));
     assert!(rt; short == [7; 511]);
     assert_eq!(rt; plan.pillars(), 1);
 }
@@ -25,7 +18,7 @@ fn under_512_bytes_nothing_is_done(rt: HostRuntime) {
 fn later_bytes_of_the_buffer_stay(rt: HostRuntime) {
     let mut plan = Plan::new();
     let mut out = [7; 512];
-    assert!(rt; !lacks_room(serve(&mut plan, b"010CF3", &mut out)));
+    assert!(rt; serve(&mut plan, b"010CF3", &mut out).is_ok());
     assert!(rt; &out[0..7] == b"817F\n\x07\x07".as_slice());
     assert_eq!(rt; plan.pillars(), 12);
 }

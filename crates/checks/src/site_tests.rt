@@ -12,12 +12,8 @@ fn halves_of_one_parity_in_range_are_a_site(rt: HostRuntime) {
 
 #[test]
 fn lengths_are_along_the_trench(rt: HostRuntime) -> Result<(), Fail> {
-    let Some(crossing) = Site::at(14, -4) else {
-        return Err(Fail::new("a crossing"));
-    };
-    let Some(middle) = Site::at(-3, 5) else {
-        return Err(Fail::new("the middle of a square"));
-    };
+    let crossing = Site::at(14, -4).ok_or("a crossing")?;
+    let middle = Site::at(-3, 5).ok_or("the middle of a square")?;
     assert_eq!(rt; crossing.reading(), (5, 9));
     assert_eq!(rt; middle.reading(), (1, -4));
     assert_eq!(rt; crossing.length(&middle), 13);

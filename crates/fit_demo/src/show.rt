@@ -6,35 +6,40 @@ use network::fitting::fit;
 use network::shape::Network;
 use std::io;
 
-// Prints the pillars at the head of a list, and ends the line.
-fn pillars(rt: &HostRuntime, list: &[u8], count: usize) -> io::Result<()> {
-    for (k, pillar) in list.iter().enumerate() {
-        if k < count {
-            print!(rt; " {pillar}")?;
-        }
+// Prints the pillars, and ends the line.
+fn pillars(rt: &HostRuntime, list: &[u8]) -> io::Result<()> {
+    for pillar in list {
+        print!(rt; " {pillar}")?;
     }
     println!(rt; "")
 }
 
-// Prints the readings of the first n pillars.
-fn readings(rt: &HostRuntime, all: &[(i32, i32)], n: usize) -> io::Result<()> {
-    for (j, (s, t)) in all.iter().enumerate() {
-        if j < n {
-            println!(rt; "  pillar {j} at sum {s}, difference {t}")?;
-        }
-    }
-    Ok(())
-}
-
 // Prints what a fit of the network found.
-pub fn fitted(rt: &HostRuntime, name: &str, network: &Network) -> io::Result<()> {
+pub fn fitted(
+    rt: &HostRuntime,
+    name: &str,
+    points: &[(i32, i32)],
+    feeders: &[[Steps; 12]],
+    links: &[[Steps; 12]],
+) -> io::Result<()> {
     println!(rt; "{name}:")?;
-    match fit(network) {
-        Ok(positions) => readings(rt, &positions.readings, network.links.len()),
-        Err(Unfit::TooShort(chain)) => {
-            let (from, to, gap, total) = (chain.from, chain.to, chain.gap, chain.total);
+    let network = Network {
+        points,
+        feeders,
+        links,
+    };
+    match fit(&network) {
+        Ok(positions) => {
+            for (j, (s, t)) in positions.readings.iter().take(links.len()).enumerate() {
+                println!(rt; "  pillar {j} at sum {s}, difference {t}")?;
+            }
+            Ok(())
+        }
+        Err(Unfit::TooShort(short)) => {
+            let (from, to) = (short.chain.from, short.chain.to);
+            let (gap, total) = (short.gap, short.chain.total);
             print!(rt; "  too short: points {from} and {to}, gap {gap}, total {total}, pillars")?;
-            pillars(rt, &chain.pillars, chain.count)
+            pillars(rt, &short.chain.pillars)
         }
         Err(Unfit::NoNetwork) => println!(rt; "  no network"),
     }
@@ -42,17 +47,13 @@ pub fn fitted(rt: &HostRuntime, name: &str, network: &Network) -> io::Result<()>
 
 // The best chain in steps to pillar 3, and by being tied to pillars 2 and 0.
 pub fn chains(rt: &HostRuntime) -> io::Result<()> {
-    let far = Steps::Unlimited;
+    let far = None;
     let mut runs = [[far; 12]; 4];
-    runs[0][1] = Steps::Limited(2);
-    runs[1][2] = Steps::Limited(3);
-    runs[0][2] = Steps::Limited(10);
-    runs[2][3] = Steps::Limited(1);
-    in_steps(
-        rt,
-        &[Steps::Limited(5), far, far, Steps::Limited(20)],
-        &runs,
-    )?;
+    runs[0][1] = Some(2);
+    runs[1][2] = Some(3);
+    runs[0][2] = Some(10);
+    runs[2][3] = Some(1);
+    in_steps(rt, &[Some(5), far, far, Some(20)], &runs)?;
     let no = Tied { yes: false };
     let yes = Tied { yes: true };
     let mut ties = [[no; 12]; 3];
@@ -62,22 +63,20 @@ pub fn chains(rt: &HostRuntime) -> io::Result<()> {
 }
 
 fn in_steps(rt: &HostRuntime, first: &[Steps], runs: &[[Steps; 12]]) -> io::Result<()> {
-    let mut list = [0; 12];
-    if let Ok(found) = best_chain_to(first, runs, 3, &mut list) {
-        if let Steps::Limited(steps) = found.value {
+    if let Ok(found) = best_chain_to(first, runs, 3) {
+        if let Some(steps) = found.value {
             print!(rt; "{steps} steps to pillar 3, pillars")?;
-            pillars(rt, &list, found.count)?;
+            pillars(rt, &found.pillars)?;
         }
     }
     Ok(())
 }
 
 fn tied(rt: &HostRuntime, first: &[Tied], ties: &[[Tied; 12]], v: u8) -> io::Result<()> {
-    let mut list = [0; 12];
-    if let Ok(found) = best_chain_to(first, ties, v, &mut list) {
+    if let Ok(found) = best_chain_to(first, ties, v) {
         let yes = found.value.yes;
         print!(rt; "pillar {v} tied: {yes}, pillars")?;
-        pillars(rt, &list, found.count)?;
+        pillars(rt, &found.pillars)?;
     }
     Ok(())
 }

@@ -1,10 +1,7 @@
+pub mod Codes
 pub mod Splitting
-pub mod Growing
 pub mod Sums
-pub mod Writing
 pub mod Framing
-pub mod Lined
-pub mod Spread
 pub mod Values
 pub mod Spelling
 pub mod Rereading

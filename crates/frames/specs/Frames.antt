@@ -1,10 +1,13 @@
 -- What calls and answers are as frames, and frames as lines.
-use Rattle.std.specs.Prelude.{ℕ, ◌+◌, ◌-◌, ◌%◌, List, [], ◌∷◌, ◌++◌, length}
+use Rattle.std.specs.Prelude.{ℕ, ◌-◌, ◌%◌, List, [], ◌∷◌, ◌++◌, length, sum}
 use Rattle.yard.specs.declared.edit.EntryTerms.{EntryTerms}
 use Rattle.yard.specs.declared.edit.Edit.{Edit}
 use Rattle.yard.specs.declared.edit.Edit.TheVariants.{Open, Raise, Strike, Feeder, Link}
 use Rattle.yard.specs.declared.force.Run.{Run}
 use Rattle.yard.specs.declared.force.Run.TheVariants as run
+use Rattle.frames.specs.declared.kind.CallKind.{CallKind}
+use Rattle.frames.specs.declared.kind.CallKind.TheVariants as kind
+use Rattle.frames.specs.declared.kind.AnswerKind.TheVariants as answer
 use Rattle.frames.specs.declared.field.Field.{Field}
 use Rattle.frames.specs.declared.field.Field.TheVariants.{Byte, Half, Word, Signed}
 use Rattle.frames.specs.declared.call.Call.{Call}
@@ -12,36 +15,32 @@ use Rattle.frames.specs.declared.call.Call.TheVariants as call
 use Rattle.frames.specs.declared.answer.Told.{Told}
 use Rattle.frames.specs.declared.answer.Answer.{Answer}
 use Rattle.frames.specs.declared.answer.Answer.TheVariants.{Taken, Refused, Level, Site, Floor, Fixed, Chain, Clash, RunPriced, MastSeen}
+use Rattle.frames.specs.Kinds.{call_code, answer_code}
 use Rattle.frames.specs.Digits.{hex}
 use Rattle.frames.specs.Fields.{spelled}
 
--- what bytes add to
-abbrev pub total_of : List ℕ → ℕ
-total_of [] = 0
-total_of (b ∷ bytes) = b + total_of bytes
-
 -- the byte that makes all bytes of a frame add to 0 modulo 256
 abbrev pub check_byte : List ℕ → ℕ
-check_byte bytes = (256 - total_of bytes % 256) % 256
+check_byte bytes = (256 - sum bytes % 256) % 256
 
 -- a frame: a kind byte, its fields, and the check byte
 abbrev pub framed : List ℕ → List ℕ
 framed bytes = bytes ++ (check_byte bytes ∷ [])
 
 -- the kind of each call
-abbrev pub edit_kind : Edit → ℕ
-edit_kind (Open n) = 1
-edit_kind (Raise m x y) = 2
-edit_kind (Strike m) = 3
-edit_kind (Feeder m p t) = 4
-edit_kind (Link p q t) = 5
+abbrev pub edit_kind : Edit → CallKind
+edit_kind (Open n) = kind.Open
+edit_kind (Raise m x y) = kind.Raise
+edit_kind (Strike m) = kind.Strike
+edit_kind (Feeder m p t) = kind.Feeder
+edit_kind (Link p q t) = kind.Link
 
-abbrev pub kind_of : Call → ℕ
+abbrev pub kind_of : Call → CallKind
 kind_of (call.Edit e) = edit_kind e
-kind_of call.Place = 6
-kind_of call.Why = 7
-kind_of (call.Dearest k) = 8
-kind_of (call.Nearest p k) = 9
+kind_of call.Place = kind.Place
+kind_of call.Why = kind.Why
+kind_of (call.Dearest k) = kind.Dearest
+kind_of (call.Nearest p k) = kind.Nearest
 
 -- the fields of each call
 abbrev pub term_fields : EntryTerms → List Field
@@ -63,10 +62,10 @@ fields_of (call.Nearest p k) = Byte p ∷ Byte k ∷ []
 
 -- a call's bytes before the check byte, its frame, and its line
 abbrev pub edit_bytes : Edit → List ℕ
-edit_bytes e = edit_kind e ∷ spelled (edit_fields e)
+edit_bytes e = call_code (edit_kind e) ∷ spelled (edit_fields e)
 
 abbrev pub call_bytes : Call → List ℕ
-call_bytes c = kind_of c ∷ spelled (fields_of c)
+call_bytes c = call_code (kind_of c) ∷ spelled (fields_of c)
 
 abbrev pub call_frame : Call → List ℕ
 call_frame c = framed (call_bytes c)
@@ -85,16 +84,16 @@ told_fields t = Byte t.from ∷ Byte t.to ∷ Word t.gap ∷ Word t.total ∷ By
 
 -- an answer's bytes before the check byte
 abbrev pub answer_bytes : Answer → List ℕ
-answer_bytes Taken = 129 ∷ []
-answer_bytes (Refused n p) = 130 ∷ spelled (Byte n ∷ Byte p ∷ [])
-answer_bytes (Level n) = 131 ∷ spelled (Word n ∷ [])
-answer_bytes (Site p x y) = 132 ∷ spelled (Byte p ∷ Signed x ∷ Signed y ∷ [])
-answer_bytes Floor = 133 ∷ []
-answer_bytes (Fixed r) = 134 ∷ spelled (run_fields r)
-answer_bytes (Chain t) = 135 ∷ (spelled (told_fields t) ++ t.pillars.now)
-answer_bytes (Clash t) = 136 ∷ (spelled (told_fields t) ++ t.pillars.now)
-answer_bytes (RunPriced r l n) = 137 ∷ spelled (run_fields r ++ (Word l ∷ Word n ∷ []))
-answer_bytes (MastSeen m l) = 138 ∷ spelled (Byte m ∷ Word l ∷ [])
+answer_bytes Taken = answer_code answer.Taken ∷ []
+answer_bytes (Refused n p) = answer_code answer.Refused ∷ spelled (Byte n ∷ Byte p ∷ [])
+answer_bytes (Level n) = answer_code answer.Level ∷ spelled (Word n ∷ [])
+answer_bytes (Site p x y) = answer_code answer.Site ∷ spelled (Byte p ∷ Signed x ∷ Signed y ∷ [])
+answer_bytes Floor = answer_code answer.Floor ∷ []
+answer_bytes (Fixed r) = answer_code answer.Fixed ∷ spelled (run_fields r)
+answer_bytes (Chain t) = answer_code answer.Chain ∷ (spelled (told_fields t) ++ t.pillars.now)
+answer_bytes (Clash t) = answer_code answer.Clash ∷ (spelled (told_fields t) ++ t.pillars.now)
+answer_bytes (RunPriced r l n) = answer_code answer.RunPriced ∷ spelled (run_fields r ++ (Word l ∷ Word n ∷ []))
+answer_bytes (MastSeen m l) = answer_code answer.MastSeen ∷ spelled (Byte m ∷ Word l ∷ [])
 
 -- a line with its line feed
 abbrev pub line_text : List ℕ → List ℕ

@@ -1,8 +1,9 @@
+pub mod Kinds
 pub mod Digits
 pub mod Lines
+pub mod Left
 pub mod Faults
 pub mod Fields
-pub mod Held
 pub mod Frames
 pub mod Writing
 pub mod Reading

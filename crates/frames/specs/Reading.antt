@@ -1,5 +1,5 @@
 -- What a line is read as: a call, or the first row that refuses it.
-use Rattle.std.specs.Prelude.{◌≡◌, ℕ, ◌+◌, ◌%◌, ◌^◌, ◌<◌, min, true, ◌⊎◌, List, ◌∷◌, length, is_some, Some, None, Ok, Err, Option, Result, FitsSigned, ◌≢◌, slice_index}
+use Rattle.std.specs.Prelude.{◌≡◌, ℕ, ◌+◌, ◌%◌, ◌^◌, ◌<◌, min, true, ◌⊎◌, List, ◌∷◌, length, sum, is_some, Some, None, Ok, Err, Option, Result, FitsSigned, ◌≢◌, slice_index}
 use Rattle.std.specs.Int.{w32}
 use Rattle.std.specs.List.{AllByRecursion}
 use Rattle.frames.specs.declared.field.Field.{Field}
@@ -9,9 +9,10 @@ use Rattle.frames.specs.declared.fault.LineFault.{LineFault}
 use Rattle.frames.specs.declared.fault.LineFault.TheVariants.{Length, NoDigit}
 use Rattle.frames.specs.declared.fault.FrameFault.{FrameFault}
 use Rattle.frames.specs.declared.fault.FrameFault.TheVariants.{Line, Sum, Kind}
+use Rattle.frames.specs.Kinds.{call_code}
 use Rattle.frames.specs.Digits.{digit_of, hex}
 use Rattle.frames.specs.Fields.{spelled}
-use Rattle.frames.specs.Frames.{total_of, kind_of, fields_of, call_bytes, call_frame, call_line}
+use Rattle.frames.specs.Frames.{kind_of, fields_of, call_bytes, call_frame, call_line}
 
 -- no character, an odd number of them, or over 64
 abbrev pub BadLength : List ℕ → Type 0
@@ -29,12 +30,12 @@ pub record Spells (line bytes : List ℕ) : Type 0 where
 
 -- no call has the frame's kind and its length
 abbrev pub Unknown : List ℕ → Type 0
-Unknown bytes = (c : Call) → kind_of c ≡ slice_index bytes 0 → length (call_frame c) ≢ length bytes
+Unknown bytes = (c : Call) → call_code (kind_of c) ≡ slice_index bytes 0 → length (call_frame c) ≢ length bytes
 
 abbrev pub FrameRefused : List ℕ → FrameFault → Type 0
 FrameRefused line (Line f) = LineRefused line f
-FrameRefused line (Sum n) = (bytes : List ℕ) × Spells line bytes × ((total_of bytes % 256 ≡ 0) → ⊥) × (n + 1 ≡ length bytes)
-FrameRefused line Kind = (bytes : List ℕ) × Spells line bytes × (total_of bytes % 256 ≡ 0) × Unknown bytes
+FrameRefused line (Sum n) = (bytes : List ℕ) × Spells line bytes × ((sum bytes % 256 ≡ 0) → ⊥) × (n + 1 ≡ length bytes)
+FrameRefused line Kind = (bytes : List ℕ) × Spells line bytes × (sum bytes % 256 ≡ 0) × Unknown bytes
 
 -- the numbers of a call have the width of their fields
 abbrev pub FieldFits : Field → Type 0
@@ -59,14 +60,14 @@ pub record Decoded (kind : ℕ) (fields : List ℕ) (c : Call) : Type 0 where
 -- or none, where no call has that kind and that many bytes of fields
 abbrev pub Decodes : ℕ → List ℕ → Option Call → Type 0
 Decodes kind fields (Some c) = Decoded kind fields c
-Decodes kind fields None = (c : Call) → kind_of c ≡ kind → length (spelled (fields_of c)) ≢ length fields
+Decodes kind fields None = (c : Call) → call_code (kind_of c) ≡ kind → length (spelled (fields_of c)) ≢ length fields
 
 -- a frame's call, or the first of the frame's rows that refuses it
 abbrev pub FrameReads : List ℕ → Result Call FrameFault → Type 0
 FrameReads bytes (Ok c) = (call_frame c ≡ bytes) × Fits c
 FrameReads bytes (Err (Line f)) = ⊥
-FrameReads bytes (Err (Sum n)) = (total_of bytes % 256 ≢ 0) × (n + 1 ≡ length bytes)
-FrameReads bytes (Err Kind) = (total_of bytes % 256 ≡ 0) × Unknown bytes
+FrameReads bytes (Err (Sum n)) = (sum bytes % 256 ≢ 0) × (n + 1 ≡ length bytes)
+FrameReads bytes (Err Kind) = (sum bytes % 256 ≡ 0) × Unknown bytes
 
 -- a line read: it has no other reading, and every call that there is comes back from its line
 pub record LineRead (line : List ℕ) (r : Result Call FrameFault) : Type 0 where

@@ -3,7 +3,7 @@
 use yard::force::Run;
 
 // A chain as it is told: its two masts, the length between them, what its runs add to, and its pillars.
-#[derive(Clone, Copy)]
+#[derive(Clone, Copy, PartialEq, Eq, Debug)]
 pub struct Told<'a> {
     pub from: u8,
     pub to: u8,
@@ -12,9 +12,10 @@ pub struct Told<'a> {
     pub pillars: &'a [u8],
 }
 
-#[derive(Clone, Copy)]
+#[derive(Clone, Copy, PartialEq, Eq, Debug)]
 pub enum Answer<'a> {
     Taken,
+    // any number, and not a rule: a narrower type would ask more of who writes an answer
     Refused { number: u8, place: u8 },
     Level { cents: u32 },
     Site { pillar: u8, hx: i32, hy: i32 },

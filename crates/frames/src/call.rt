@@ -2,7 +2,7 @@
 
 use yard::edit::Edit;
 
-#[derive(Clone, Copy)]
+#[derive(Clone, Copy, PartialEq, Eq, Debug)]
 pub enum Call {
     Edit(Edit),
     Place,

@@ -3,7 +3,7 @@
 ghost use Rattle.std.specs.Prelude.{◌≡◌};
 ghost use Rattle.frames.specs.Digits.{digit_of};
 
-// The value of a digit.
+// The value of a digit: `char::to_digit` would take small letters too.
 pub fn digit(c: char) -> Option<u8>
     ensures { result ≡ digit_of c }
 {

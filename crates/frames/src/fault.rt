@@ -4,9 +4,9 @@ ghost use Rattle.std.specs.Prelude.{◌≡◌};
 ghost use Rattle.frames.specs.Faults.{line_refusal, frame_refusal};
 ghost use Rattle.frames.specs.declared.fault.FrameFault.TheVariants.{Line as in_line};
 
-use yard::fault::{Layer, Refusal};
+use yard::fault::{Refusal, Rule};
 
-#[derive(Clone, Copy)]
+#[derive(Clone, Copy, PartialEq, Eq, Debug)]
 pub enum LineFault {
     // no character, an odd number of them, or over 64: how many, at most 64
     Length(u8),
@@ -14,7 +14,7 @@ pub enum LineFault {
     NoDigit(u8),
 }
 
-#[derive(Clone, Copy)]
+#[derive(Clone, Copy, PartialEq, Eq, Debug)]
 pub enum FrameFault {
     Line(LineFault),
     // the bytes do not add to 0 modulo 256: the place of the last one
@@ -23,6 +23,7 @@ pub enum FrameFault {
     Kind,
 }
 
+// By hand: a derived `From` has no contract.
 impl From<LineFault> for FrameFault {
     ghost from_gives = { λ f g. g ≡ in_line f };
 
@@ -31,27 +32,25 @@ impl From<LineFault> for FrameFault {
     }
 }
 
-impl LineFault {
-    // The refusal as it is told.
-    pub fn refusal(self) -> Refusal
-        ensures { result ≡ line_refusal self }
-    {
-        match self {
-            LineFault::Length(place) => Layer::Line.refusal(1, place),
-            LineFault::NoDigit(place) => Layer::Line.refusal(2, place),
+impl From<LineFault> for Refusal {
+    ghost from_gives = { λ f r. r ≡ line_refusal f };
+
+    fn from(fault: LineFault) -> Refusal {
+        match fault {
+            LineFault::Length(place) => Rule::LineLength.at(place),
+            LineFault::NoDigit(place) => Rule::NoDigit.at(place),
         }
     }
 }
 
-impl FrameFault {
-    // The refusal as it is told.
-    pub fn refusal(self) -> Refusal
-        ensures { result ≡ frame_refusal self }
-    {
-        match self {
-            FrameFault::Line(fault) => fault.refusal(),
-            FrameFault::Sum(place) => Layer::Frame.refusal(3, place),
-            FrameFault::Kind => Layer::Frame.refusal(4, 0),
+impl From<FrameFault> for Refusal {
+    ghost from_gives = { λ f r. r ≡ frame_refusal f };
+
+    fn from(fault: FrameFault) -> Refusal {
+        match fault {
+            FrameFault::Line(fault) => fault.into(),
+            FrameFault::Sum(place) => Rule::CheckSum.at(place),
+            FrameFault::Kind => Rule::Kind.at(0),
         }
     }
 }

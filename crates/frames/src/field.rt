@@ -1,5 +1,5 @@
 // A field of a frame: a number in one, two or four bytes, or a signed number in four.
-#[derive(Clone, Copy)]
+#[derive(Clone, Copy, PartialEq, Eq, Debug)]
 pub enum Field {
     Byte(u8),
     Half(u16),

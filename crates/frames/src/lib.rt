@@ -2,12 +2,13 @@
 #![tactic(auto)]
 
 pub mod answer;
-pub mod bytes;
+mod bytes;
 pub mod call;
 mod decode;
 pub mod digits;
 pub mod fault;
 pub mod field;
+mod kind;
 pub mod lines;
 pub mod read;
 pub mod write;

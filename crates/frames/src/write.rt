@@ -1,123 +1,93 @@
 // Calls and answers written as lines into the caller's buffer.
 
-ghost use Rattle.std.specs.Prelude.{◌≡◌, ℕ, ◌+◌, ◌*◌, ◌%◌, ◌<◌, ◌≤◌, [], ◌∷◌, ◌++◌, length, MatchResult};
-ghost use Rattle.frames.specs.Held.{held};
+ghost use Rattle.std.specs.Prelude.{◌≡◌, ◌+◌, ◌<◌, ◌≤◌, [], ◌∷◌, ◌++◌, length, MatchOption};
+ghost use Rattle.frames.specs.Kinds.{call_code, answer_code};
 ghost use Rattle.frames.specs.Digits.{digit_char, hex};
-ghost use Rattle.frames.specs.Fields.{spelled};
-ghost use Rattle.frames.specs.Frames.{framed, call_bytes, answer_bytes, line_text, run_fields, term_fields, told_fields, edit_bytes};
-ghost use Rattle.frames.specs.declared.field.Field.TheVariants.{Byte as byte_field, Word as word_field};
-ghost use Rattle.frames.specs.Writing.{Wrote, over_head};
+ghost use Rattle.frames.specs.Fields.{spell_field, spelled};
+ghost use Rattle.frames.specs.Frames.{call_bytes, answer_bytes, line_text, run_fields, term_fields, told_fields, edit_bytes};
+ghost use Rattle.frames.specs.Writing.{Wrote};
 
 use crate::answer::{Answer, Told};
-use crate::bytes::FrameBytes;
-use crate::bytes::fill::{Full, byte_sum};
+use crate::bytes::{FrameBytes, byte_sum};
 use crate::call::Call;
 use crate::field::Field;
 use crate::field::Field::{Byte, Half, Signed, Word};
+use crate::kind::{AnswerKind, CallKind, RunClass};
+use arrayvec::ArrayVec;
 use yard::edit::{Edit, EntryTerms};
 use yard::force::Run;
 
-// A frame of a kind, some fields and some further bytes, with its check byte.
-fn frame(kind: u8, fields: &[Field], more: &[u8]) -> Result<FrameBytes, Full>
-    ensures { MatchResult result (λ b. held b ≡ framed (kind ∷ (spelled fields.now ++ more.now))) (λ _. 32 < length (framed (kind ∷ (spelled fields.now ++ more.now)))) }
+// A field more, its highest byte first; the arms differ in type, and each type's bytes in length.
+fn push_field(bytes: &mut FrameBytes, field: Field)
+    requires { length bytes.old.items + length (spell_field field) ≤ 32 }
+    ensures { bytes.new.items ≡ bytes.old.items ++ spell_field field }
+{
+    let added = match field {
+        Byte(n) => bytes.try_extend_from_slice(&n.to_be_bytes()),
+        Half(n) => bytes.try_extend_from_slice(&n.to_be_bytes()),
+        Word(n) => bytes.try_extend_from_slice(&n.to_be_bytes()),
+        Signed(n) => bytes.try_extend_from_slice(&n.to_be_bytes()),
+    };
+    added.unwrap();
+}
+
+// The code of a kind, and some fields.
+fn coded(code: u8, fields: &[Field]) -> FrameBytes
+    requires { length (spelled fields.now) < 32 }
+    ensures { result.items ≡ code ∷ spelled fields.now }
 {
     let mut bytes = FrameBytes::new();
-    bytes.push(kind)?;
+    bytes.push(code);
     for field in fields {
-        bytes.push_field(*field)?;
+        push_field(&mut bytes, *field);
     }
-    bytes.extend(more)?;
-    let check = 0u8.wrapping_sub(byte_sum(bytes.as_slice()));
-    bytes.push(check)?;
-    Ok(bytes)
+    bytes
 }
 
-// The digit of a value.
-fn letter(value: u8) -> u8
-    requires { value < 16 }
-    ensures { result ≡ digit_char value }
-{
-    if value < 10 {
-        b'0' + value
-    } else {
-        b'A' + (value - 10)
-    }
-}
-
-// The digits of some bytes at the head of `out`, and a line feed.
-fn put_digits(bytes: &[u8], out: &mut [u8])
-    requires { 2 * length bytes.now < length out.old }
-    ensures { out.new ≡ over_head (hex bytes.now ++ (10 ∷ [])) out.old }
-{
-    for (i, byte) in bytes.iter().enumerate() {
-        out[2 * i] = letter(*byte / 16);
-        out[2 * i + 1] = letter(*byte % 16);
-    }
-    out[2 * bytes.len()] = b'\n';
-}
-
-// A frame as a line at the head of `out`, and how many bytes that takes.
-fn put_line(kind: u8, fields: &[Field], more: &[u8], out: &mut [u8]) -> Option<usize>
-    ensures { Wrote (line_text (kind ∷ (spelled fields.now ++ more.now))) out.old result out.new }
-{
-    let Ok(bytes) = frame(kind, fields, more) else {
-        return None;
-    };
-    let bytes = bytes.as_slice();
-    let count = 2 * bytes.len() + 1;
-    if out.len() < count {
-        return None;
-    }
-    put_digits(bytes, out);
-    Some(count)
-}
-
-// The three terms of a run.
-fn put_terms(kind: u8, one: u8, other: u8, terms: EntryTerms, out: &mut [u8]) -> Option<usize>
-    ensures { Wrote (line_text (kind ∷ one ∷ other ∷ spelled (term_fields terms))) out.old result out.new }
+// A run with its terms, as the bytes of an edit.
+fn run_bytes(kind: CallKind, one: u8, other: u8, terms: EntryTerms) -> FrameBytes
+    ensures { result.items ≡ call_code kind ∷ one ∷ other ∷ spelled (term_fields terms) }
 {
     let EntryTerms { rate, fixed, limit } = terms;
-    put_line(
-        kind,
+    coded(
+        kind as u8,
         &[Byte(one), Byte(other), Half(rate), Word(fixed), Word(limit)],
-        &[],
-        out,
     )
 }
 
-// An edit as a line.
-fn put_edit(edit: Edit, out: &mut [u8]) -> Option<usize>
-    ensures { Wrote (line_text (edit_bytes edit)) out.old result out.new }
+// The bytes of an edit before its check byte.
+fn edit_bytes(edit: Edit) -> FrameBytes
+    ensures { result.items ≡ edit_bytes edit }
 {
     match edit {
-        Edit::Open { count } => put_line(1, &[Byte(count)], &[], out),
-        Edit::Raise { mast, x, y } => put_line(2, &[Byte(mast), Signed(x), Signed(y)], &[], out),
-        Edit::Strike { mast } => put_line(3, &[Byte(mast)], &[], out),
+        Edit::Open { count } => coded(CallKind::Open as u8, &[Byte(count)]),
+        Edit::Raise { mast, x, y } => coded(
+            CallKind::Raise as u8,
+            &[Byte(mast), Signed(x), Signed(y)],
+        ),
+        Edit::Strike { mast } => coded(CallKind::Strike as u8, &[Byte(mast)]),
         Edit::Feeder {
             mast,
             pillar,
             terms,
-        } => put_terms(4, mast, pillar, terms, out),
-        Edit::Link { one, other, terms } => put_terms(5, one, other, terms, out),
+        } => run_bytes(CallKind::Feeder, mast, pillar, terms),
+        Edit::Link { one, other, terms } => run_bytes(CallKind::Link, one, other, terms),
     }
 }
 
-// A call as a line at the head of `out`; the bytes that it takes, or nothing where it has no room.
-pub fn write_call(call: Call, out: &mut [u8]) -> Option<usize>
-    ensures { Wrote (line_text (call_bytes call)) out.old result out.new }
+// A run's class and its ends.
+fn run_fields(run: Run) -> [Field; 3]
+    ensures { result ≡ run_fields run }
 {
-    match call {
-        Call::Edit(edit) => put_edit(edit, out),
-        Call::Place => put_line(6, &[], &[], out),
-        Call::Why => put_line(7, &[], &[], out),
-        Call::Dearest { k } => put_line(8, &[Byte(k)], &[], out),
-        Call::Nearest { pillar, k } => put_line(9, &[Byte(pillar), Byte(k)], &[], out),
+    match run {
+        Run::Feeder { mast, pillar } => [Byte(RunClass::Feeder as u8), Byte(mast), Byte(pillar)],
+        Run::Link { one, other } => [Byte(RunClass::Link as u8), Byte(one), Byte(other)],
     }
 }
 
-// A chain, its pillars last.
-fn put_told(kind: u8, told: Told, out: &mut [u8]) -> Option<usize>
-    ensures { Wrote (line_text (kind ∷ (spelled (told_fields told.entry) ++ told.entry.pillars.now))) out.old result out.new }
+// A chain, its pillars last; nothing where it has no room.
+fn told_bytes(kind: AnswerKind, told: Told) -> Option<FrameBytes>
+    ensures { let bytes = answer_code kind ∷ (spelled (told_fields told.entry) ++ told.entry.pillars.now) in MatchOption result (32 < length bytes) (λ b. b.items ≡ bytes) }
 {
     let Told {
         from,
@@ -126,69 +96,106 @@ fn put_told(kind: u8, told: Told, out: &mut [u8]) -> Option<usize>
         total,
         pillars,
     } = told;
-    if pillars.len() > 32 {
+    let count = u8::try_from(pillars.len()).ok()?;
+    let mut bytes = coded(
+        kind as u8,
+        &[Byte(from), Byte(to), Word(gap), Word(total), Byte(count)],
+    );
+    bytes.try_extend_from_slice(pillars).ok()?;
+    Some(bytes)
+}
+
+// The bytes of an answer before its check byte; nothing where a chain has no room.
+fn answer_bytes(answer: Answer) -> Option<FrameBytes>
+    ensures { MatchOption result (32 < length (answer_bytes answer.entry)) (λ b. b.items ≡ answer_bytes answer.entry) }
+{
+    let bytes = match answer {
+        Answer::Taken => coded(AnswerKind::Taken as u8, &[]),
+        Answer::Refused { number, place } => coded(
+            AnswerKind::Refused as u8,
+            &[Byte(number), Byte(place)],
+        ),
+        Answer::Level { cents } => coded(AnswerKind::Level as u8, &[Word(cents)]),
+        Answer::Site { pillar, hx, hy } => coded(
+            AnswerKind::Site as u8,
+            &[Byte(pillar), Signed(hx), Signed(hy)],
+        ),
+        Answer::Floor => coded(AnswerKind::Floor as u8, &[]),
+        Answer::Fixed { run } => coded(AnswerKind::Fixed as u8, &run_fields(run)),
+        Answer::Chain(told) => told_bytes(AnswerKind::Chain, told)?,
+        Answer::Clash(told) => told_bytes(AnswerKind::Clash, told)?,
+        Answer::RunPriced { run, length, cents } => {
+            let [class, one, other] = run_fields(run);
+            coded(
+                AnswerKind::RunPriced as u8,
+                &[class, one, other, Word(length), Word(cents)],
+            )
+        }
+        Answer::MastSeen { mast, length } => coded(
+            AnswerKind::MastSeen as u8,
+            &[Byte(mast), Word(length)],
+        ),
+    };
+    Some(bytes)
+}
+
+// `char::from_digit` and the crate `hex` give small letters.
+const DIGITS: &[u8; 16] = b"0123456789ABCDEF";
+
+// The digit of a value.
+fn letter(value: u8) -> u8
+    requires { value < 16 }
+    ensures { result ≡ digit_char value }
+{
+    DIGITS[usize::from(value)]
+}
+
+// A frame as a line with its line feed.
+fn line_of(frame: &[u8]) -> ArrayVec<u8, 65>
+    requires { length frame.now ≤ 32 }
+    ensures { result.items ≡ hex frame.now ++ (10 ∷ []) }
+{
+    let mut line = ArrayVec::new();
+    for byte in frame {
+        line.push(letter(*byte / 16));
+        line.push(letter(*byte % 16));
+    }
+    line.push(b'\n');
+    line
+}
+
+// Some bytes, closed by their check byte, as a line at the head of `out`, and how many bytes that takes.
+fn put_line(mut bytes: FrameBytes, out: &mut [u8]) -> Option<usize>
+    ensures { Wrote (line_text bytes.items) out.old result out.new }
+{
+    let check = 0u8.wrapping_sub(byte_sum(bytes.as_slice()));
+    bytes.try_push(check).ok()?;
+    let line = line_of(bytes.as_slice());
+    let count = line.len();
+    if out.len() < count {
         return None;
     }
-    let count = pillars.len() as u8;
-    put_line(
-        kind,
-        &[Byte(from), Byte(to), Word(gap), Word(total), Byte(count)],
-        pillars,
-        out,
-    )
+    out[..count].copy_from_slice(line.as_slice());
+    Some(count)
 }
 
-// A run's class and its ends.
-fn run_ends(run: Run) -> (u8, u8, u8)
-    ensures { run_fields run ≡ byte_field result.0 ∷ byte_field result.1 ∷ byte_field result.2 ∷ [] }
+// A call as a line at the head of `out`; the bytes that it takes, or nothing where it has no room.
+pub fn write_call(call: Call, out: &mut [u8]) -> Option<usize>
+    ensures { Wrote (line_text (call_bytes call)) out.old result out.new }
 {
-    match run {
-        Run::Feeder { mast, pillar } => (0, mast, pillar),
-        Run::Link { one, other } => (1, one, other),
-    }
-}
-
-// A run with its length and its price.
-fn put_priced(run: Run, length: u32, cents: u32, out: &mut [u8]) -> Option<usize>
-    ensures { Wrote (line_text (137 ∷ spelled (run_fields run ++ (word_field length ∷ word_field cents ∷ [])))) out.old result out.new }
-{
-    let (class, one, other) = run_ends(run);
-    put_line(
-        0x89,
-        &[
-            Byte(class),
-            Byte(one),
-            Byte(other),
-            Word(length),
-            Word(cents),
-        ],
-        &[],
-        out,
-    )
+    let bytes = match call {
+        Call::Edit(edit) => edit_bytes(edit),
+        Call::Place => coded(CallKind::Place as u8, &[]),
+        Call::Why => coded(CallKind::Why as u8, &[]),
+        Call::Dearest { k } => coded(CallKind::Dearest as u8, &[Byte(k)]),
+        Call::Nearest { pillar, k } => coded(CallKind::Nearest as u8, &[Byte(pillar), Byte(k)]),
+    };
+    put_line(bytes, out)
 }
 
 // An answer as a line at the head of `out`; the bytes that it takes, or nothing where it has no room.
 pub fn write_answer(answer: Answer, out: &mut [u8]) -> Option<usize>
     ensures { Wrote (line_text (answer_bytes answer.entry)) out.old result out.new }
 {
-    match answer {
-        Answer::Taken => put_line(0x81, &[], &[], out),
-        Answer::Refused { number, place } => put_line(0x82, &[Byte(number), Byte(place)], &[], out),
-        Answer::Level { cents } => put_line(0x83, &[Word(cents)], &[], out),
-        Answer::Site { pillar, hx, hy } => put_line(
-            0x84,
-            &[Byte(pillar), Signed(hx), Signed(hy)],
-            &[],
-            out,
-        ),
-        Answer::Floor => put_line(0x85, &[], &[], out),
-        Answer::Fixed { run } => {
-            let (class, one, other) = run_ends(run);
-            put_line(0x86, &[Byte(class), Byte(one), Byte(other)], &[], out)
-        }
-        Answer::Chain(told) => put_told(0x87, told, out),
-        Answer::Clash(told) => put_told(0x88, told, out),
-        Answer::RunPriced { run, length, cents } => put_priced(run, length, cents, out),
-        Answer::MastSeen { mast, length } => put_line(0x8A, &[Byte(mast), Word(length)], &[], out),
-    }
+    put_line(answer_bytes(answer)?, out)
 }

@@ -1,23 +1,24 @@
 -- The greatest positions on both axes, and a chain that is too short on one. Assumes nothing.
-use Rattle.std.proofs.Common.{◌≡◌, ℕ, ◌<◌, ◌≤◌, max, List, get_or, ℤ, pos, ◌-ℤ◌, nat_abs, Ok, ap, ◌∙◌, arith}
-use Rattle.chains.specs.declared.measure.Steps.{Steps}
-use Rattle.chains.specs.declared.measure.Steps.TheVariants.{Limited, Unlimited}
+use Rattle.std.specs.Prelude.{Some, None}
+use Rattle.std.proofs.Common.{◌≡◌, ℕ, max, List, get_or, ℤ, pos, ◌-ℤ◌, nat_abs, Ok, sym, subst, arith}
+use Rattle.std.proofs.Math.Path.{fun_ext}
+use Rattle.chains.specs.Measures.{Steps}
 use Rattle.network.specs.Layout.{Layout, Within, Meets, InField, Greatest}
 use Rattle.network.specs.Axes.{MeetsOn, GreatestOn, SolvedOn}
 use Rattle.network.specs.declared.answer.Positions.{Positions}
 use Rattle.network.specs.Networks.{position_in, Placed}
 
 within_both : (s : Steps) (d e : ℕ) → Within d s → Within e s → Within (max d e) s
-within_both (Limited r) d e h k = omega arith
-within_both Unlimited d e h k = tt
+within_both (Some r) d e h k = omega arith
+within_both None d e h k = tt
 
 within_left : (s : Steps) (d e : ℕ) → Within (max d e) s → Within d s
-within_left (Limited r) d e h = omega arith
-within_left Unlimited d e h = tt
+within_left (Some r) d e h = omega arith
+within_left None d e h = tt
 
 within_right : (s : Steps) (d e : ℕ) → Within (max d e) s → Within e s
-within_right (Limited r) d e h = omega arith
-within_right Unlimited d e h = tt
+within_right (Some r) d e h = omega arith
+within_right None d e h = tt
 
 module _ (L : Layout) where
   on_first : (z : ℕ → ℤ × ℤ) → InField L z → Meets L z → MeetsOn L (λ i. (L.point i).0) (λ j. (z j).0)
@@ -44,20 +45,9 @@ module _ (L : Layout) where
     greatest = λ other F M j h. (G.greatest (λ k. (other k).0) (on_first other F M) j h, H.greatest (λ k. (other k).1) (on_second other F M) j h);
   }
 
-  -- positions that are the same on an axis are as great
-  same_on : (a x y : ℕ → ℤ) → ((j : ℕ) → j < L.pillars → y j ≡ x j) → GreatestOn L a x → GreatestOn L a y
-  same_on a x y e G = record {
-    meets = record {
-      field = λ j h. rw (e j h) (G.meets.field j h);
-      feeders = λ i j hi hj. rw (e j hj) (G.meets.feeders i j hi hj);
-      links = λ j k hj hk. rw (e j hj, e k hk) (G.meets.links j k hj hk);
-    };
-    greatest = λ z M j h. rw (e j h) (G.greatest z M j h);
-  }
-
   -- the positions of both axes as pairs, and 0 behind them
-  pub placed_both : L.pillars ≤ 12 → (s t : List ℤ) (P : Positions) → SolvedOn L (λ i. (L.point i).0) (Ok s) → SolvedOn L (λ i. (L.point i).1) (Ok t) → ((j : ℕ) → position_in P j ≡ (get_or s j (pos 0), get_or t j (pos 0))) → Placed L P
-  placed_both few s t P G H e = record {
-    greatest = greatest_both (λ j. (position_in P j).0) (λ j. (position_in P j).1) (same_on _ (λ j. get_or s j (pos 0)) _ (λ j h. ap (λ p. p.0) (e j)) G.0) (same_on _ (λ j. get_or t j (pos 0)) _ (λ j h. ap (λ p. p.1) (e j)) H.0);
-    behind = λ j h. e j ∙ ap (λ x. (x, get_or t j (pos 0))) (G.1 j h) ∙ ap (λ y. (pos 0, y)) (H.1 j h);
+  pub placed_both : (s t : List ℤ) (P : Positions) → SolvedOn L (λ i. (L.point i).0) (Ok s) → SolvedOn L (λ i. (L.point i).1) (Ok t) → ((j : ℕ) → position_in P j ≡ (get_or s j (pos 0), get_or t j (pos 0))) → Placed L P
+  placed_both s t P G H e = record {
+    greatest = subst (Greatest L) (sym (fun_ext e)) (greatest_both (λ j. get_or s j (pos 0)) (λ j. get_or t j (pos 0)) G.0 H.0);
+    behind = λ j h. rw (e j, G.1 j h, H.1 j h);
   }

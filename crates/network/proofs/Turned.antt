@@ -1,13 +1,11 @@
 -- A chain read from its other end. Assumes nothing.
-use Rattle.std.proofs.Common.{◌≡◌, ℕ, ◌+◌, ◌-◌, ◌<◌, ◌≤◌, ◌≢◌, List, [], ◌∷◌, ◌++◌, reverse, take, drop, replicate, Err, sym, refl, ap, ◌∙◌, subst, arith}
+use Rattle.std.proofs.Common.{◌≡◌, ℕ, ◌+◌, ◌<◌, List, [], ◌∷◌, reverse, Err, sym, refl, ap, ◌∙◌, subst, arith}
 use mathlib.Core.List.{reverse_aux}
-use lib.ListN.{length-reverse}
-use Rattle.network.specs.declared.line.Held.{Held}
+use Rattle.network.specs.declared.answer.Chain.{Chain}
 use Rattle.std.specs.List.{AllByRecursion}
-use Rattle.std.proofs.lemmas.List.{take_at, drop_at}
 use Rattle.chains.specs.Chains.{Different}
 use Rattle.chains.proofs.Reversed.{all_reversed, different_reversed}
-use Rattle.chains.specs.declared.measure.Steps.{Steps}
+use Rattle.chains.specs.Measures.{Steps}
 use Rattle.network.specs.Layout.{Layout, apart}
 use Rattle.network.specs.Chain.{reaches_onward, reaches_along, AddTo, Chained, Short}
 use Rattle.network.specs.Networks.{SolvedBoth, turned_chain}
@@ -54,27 +52,6 @@ short_turned L even a b pillars gap total S = record {
   short = S.short;
 }
 
--- a chain that is told from the lower point
-pub record Ordered (L : Layout) (e : Held) : Type 0 where
-  pub chain : SolvedBoth L (Err e)
-  pub order : e.from < e.to
-
-module _ (L : Layout) (even : (j k : ℕ) → j < L.pillars → k < L.pillars → L.link j k ≡ L.link k j) (h : Held) (S : SolvedBoth L (Err h)) where
-  turned_solved : SolvedBoth L (Err (turned_chain h))
-  turned_solved =
-      let front : take h.count h.pillars ≡ S.chain = ap (take h.count) S.written ∙ take_at S.chain (replicate (12 - h.count) 0) h.count (sym S.long) in
-      let behind : drop h.count h.pillars ≡ replicate (12 - h.count) 0 = ap (drop h.count) S.written ∙ drop_at S.chain (replicate (12 - h.count) 0) h.count (sym S.long) in
-      record {
-        chain = reverse S.chain;
-        holds = rw (apart_turned (L.point h.to) (L.point h.from)) (short_turned L even h.from h.to S.chain (apart (L.point h.from) (L.point h.to)) h.total S.holds);
-        long = S.long ∙ sym (length-reverse S.chain);
-        written = ap (λ xs. reverse xs ++ drop h.count h.pillars) front ∙ ap (λ ys. reverse S.chain ++ ys) behind;
-      }
-
-  pub ordered_kept : (e : Held) → e ≡ h → h.from < h.to → Ordered L e
-  ordered_kept e same lower = rw same (record { chain = S; order = lower })
-
-  pub ordered_turned : (e : Held) → e ≡ turned_chain h → h.to ≤ h.from → Ordered L e
-  ordered_turned e same lower =
-      let other : h.from ≢ h.to = S.holds.different_points in
-      rw same (record { chain = turned_solved; order = omega arith })
+-- the chain of both line problems, from its other end
+pub solved_turned : (L : Layout) → ((j k : ℕ) → j < L.pillars → k < L.pillars → L.link j k ≡ L.link k j) → (e : Chain) → SolvedBoth L (Err e) → SolvedBoth L (Err (turned_chain e))
+solved_turned L even e S = rw (apart_turned (L.point e.to) (L.point e.from)) (short_turned L even e.from e.to e.pillars.items (apart (L.point e.from) (L.point e.to)) e.total S)

@@ -2,9 +2,9 @@
 use Rattle.std.specs.Prelude.{◌≡◌, ℕ, ◌<◌, ◌≤◌, List, ℤ, pos, ◌-ℤ◌, ◌≤ℤ◌, Ok, Err, Result, slice_index_or, unsigned_abs}
 use Rattle.network.specs.declared.axis.Axis.{Axis}
 use Rattle.network.specs.declared.axis.Axis.TheVariants.{First, Second}
-use Rattle.network.specs.declared.line.Held.{Held}
+use Rattle.network.specs.declared.answer.Chain.{Chain}
 use Rattle.network.specs.Layout.{Layout, Within, Between}
-use Rattle.network.specs.Chain.{Chained, Written}
+use Rattle.network.specs.Chain.{Chained}
 
 abbrev pub number_on : Axis → ℤ × ℤ → ℤ
 number_on First p = p.0
@@ -36,6 +36,6 @@ pub record ShortOn (L : Layout) (a : ℕ → ℤ) (from to : ℕ) (pillars : Lis
   pub short : total < unsigned_abs (a from -ℤ a to)
 
 -- what the problem on one axis answers: the greatest positions with 0 behind them, or a chain that is too short
-abbrev pub SolvedOn : Layout → (ℕ → ℤ) → Result (List ℤ) Held → Type 0
+abbrev pub SolvedOn : Layout → (ℕ → ℤ) → Result (List ℤ) Chain → Type 0
 SolvedOn L a (Ok xs) = GreatestOn L a (λ j. slice_index_or xs j (pos 0)) × ((j : ℕ) → L.pillars ≤ j → slice_index_or xs j (pos 0) ≡ pos 0)
-SolvedOn L a (Err e) = Written (λ c. ShortOn L a e.from e.to c e.total) e.count e.pillars
+SolvedOn L a (Err e) = ShortOn L a e.from e.to e.pillars.items e.total

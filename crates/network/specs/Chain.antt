@@ -1,9 +1,8 @@
 -- Chains between two fixed points, and when one is too short. Assumes nothing.
-use Rattle.std.specs.Prelude.{◌≡◌, ℕ, ◌+◌, ◌-◌, ◌<◌, ◌≢◌, List, [], ◌∷◌, ◌++◌, length, replicate, ℤ}
+use Rattle.std.specs.Prelude.{◌≡◌, ℕ, ◌+◌, ◌<◌, ◌≢◌, List, [], ◌∷◌, ℤ, Some, None}
 use Rattle.std.specs.List.{AllByRecursion}
 use Rattle.chains.specs.Chains.{Different}
-use Rattle.chains.specs.declared.measure.Steps.{Steps}
-use Rattle.chains.specs.declared.measure.Steps.TheVariants.{Limited, Unlimited}
+use Rattle.chains.specs.Measures.{Steps}
 use Rattle.network.specs.Layout.{Layout, apart, Meets}
 
 -- the reaches from the pillar p by the pillars ps to the point b
@@ -18,8 +17,8 @@ reaches_along feeder link a p ps b = feeder a p ∷ reaches_onward feeder link p
 -- the reaches are all limited, and add up to t
 abbrev pub AddTo : List Steps → ℕ → Type 0
 AddTo [] t = t ≡ 0
-AddTo (Limited r ∷ more) t = (u : ℕ) × AddTo more u × (t ≡ r + u)
-AddTo (Unlimited ∷ more) t = ⊥
+AddTo (Some r ∷ more) t = (u : ℕ) × AddTo more u × (t ≡ r + u)
+AddTo (None ∷ more) t = ⊥
 
 -- A chain from the point a by different pillars, one at least, to the point b, whose reaches are all limited and add up to `total`. There are m points and n pillars.
 pub record Chained (m n : ℕ) (feeder link : ℕ → ℕ → Steps) (a b : ℕ) (pillars : List ℕ) (total : ℕ) : Type 0 where
@@ -38,13 +37,6 @@ pub record Short (L : Layout) (a b : ℕ) (pillars : List ℕ) (gap total : ℕ)
   pub different_points : a ≢ b
   pub gap_is : gap ≡ apart (L.point a) (L.point b)
   pub short : total < gap
-
--- The list of twelve holds a chain of which P holds: its `count` pillars at the head, and 0 behind them.
-pub record Written (P : List ℕ → Type 0) (count : ℕ) (list : List ℕ) : Type 0 where
-  pub chain : List ℕ
-  pub holds : P chain
-  pub long : count ≡ length chain
-  pub written : list ≡ chain ++ replicate (12 - count) 0
 
 -- Where there is a short chain, no positions whatsoever meet the network.
 abbrev pub ShortRulesOut : Type 0

@@ -1,13 +1,13 @@
 -- What the code's networks and answers stand for. Assumes nothing.
-use Rattle.std.specs.Prelude.{◌≡◌, ℕ, ◌<◌, ◌≤◌, ◌++◌, reverse, take, drop, ℤ, pos, Ok, Err, Result, slice_index_or}
+use Rattle.std.specs.Prelude.{◌≡◌, ℕ, ◌<◌, ◌≤◌, reverse, ℤ, pos, Ok, Err, Result, slice_index_or}
 use Rattle.network.specs.declared.shape.Network.{Network}
 use Rattle.network.specs.declared.answer.Positions.{Positions}
 use Rattle.network.specs.declared.answer.ShortChain.{ShortChain}
 use Rattle.network.specs.declared.answer.Unfit.{Unfit}
 use Rattle.network.specs.declared.answer.Unfit.TheVariants.{NoNetwork, TooShort}
-use Rattle.network.specs.declared.line.Held.{Held}
+use Rattle.network.specs.declared.answer.Chain.{Chain}
 use Rattle.network.specs.Layout.{Layout, apart, Meets, Greatest}
-use Rattle.network.specs.Chain.{Short, Written}
+use Rattle.network.specs.Chain.{Short}
 use Rattle.network.specs.Tables.{layout_of, Sound}
 
 abbrev pub network_layout : Network → Layout
@@ -27,23 +27,22 @@ pub record Placed (L : Layout) (P : Positions) : Type 0 where
 
 -- A chain that is too short, from the lower point to the higher by number; and no positions whatsoever meet the network.
 pub record ShortTold (L : Layout) (e : ShortChain) : Type 0 where
-  pub chain : Written (λ c. Short L e.from e.to c e.gap e.total) e.count e.pillars
-  pub order : e.from < e.to
+  pub chain : Short L e.chain.from e.chain.to e.chain.pillars.items e.gap e.chain.total
+  pub order : e.chain.from < e.chain.to
   pub none : (position : ℕ → ℤ × ℤ) → Meets L position → ⊥
 
 -- what both axes answer: the greatest positions, or a chain that is too short
-abbrev pub SolvedBoth : Layout → Result Positions Held → Type 0
+abbrev pub SolvedBoth : Layout → Result Positions Chain → Type 0
 SolvedBoth L (Ok P) = Placed L P
-SolvedBoth L (Err e) = Written (λ c. Short L e.from e.to c (apart (L.point e.from) (L.point e.to)) e.total) e.count e.pillars
+SolvedBoth L (Err e) = Short L e.from e.to e.pillars.items (apart (L.point e.from) (L.point e.to)) e.total
 
 -- the same chain from its other end
-abbrev pub turned_chain : Held → Held
+abbrev pub turned_chain : Chain → Chain
 turned_chain e = record {
   from = e.to;
   to = e.from;
   total = e.total;
-  count = e.count;
-  pillars = reverse (take e.count e.pillars) ++ drop e.count e.pillars;
+  pillars = record { items = reverse e.pillars.items };
 }
 
 -- what a fit answers

@@ -1,10 +1,14 @@
 // One axis of a network.
 ghost use Rattle.std.specs.Prelude.{◌≡◌, ℕ, ◌<◌, ◌≤◌, length, pos, ◌+ℤ◌, ◌≤ℤ◌, slice_index, slice_index_or, unsigned_abs};
-ghost use Rattle.network.specs.Tables.{point_in, layout_of, Sound};
+ghost use Rattle.network.specs.Tables.{point_in};
 ghost use Rattle.network.specs.Axes.{number_on, Least, Most, SolvedOn};
+ghost use Rattle.network.specs.Networks.{network_layout};
 
-use super::line::{Held, highest};
-use chains::measure::Steps;
+use super::answer::Chain;
+use super::line::Problem;
+use super::shape::Network;
+use super::sound::Checked;
+use std::array;
 
 // The first or the second number of a reading.
 #[derive(Clone, Copy)]
@@ -13,12 +17,15 @@ pub(crate) enum Axis {
     Second,
 }
 
-fn reading(point: (i32, i32), axis: Axis) -> i64
-    ensures { result ≡ number_on axis point }
-{
-    match axis {
-        Axis::First => point.0 as i64,
-        Axis::Second => point.1 as i64,
+impl Axis {
+    // Not a closure for each axis, which is no plainer: three functions would have to say of it in their clauses what this match says once.
+    fn number(self, reading: (i32, i32)) -> i64
+        ensures { result ≡ number_on self reading }
+    {
+        match self {
+            Axis::First => i64::from(reading.0),
+            Axis::Second => i64::from(reading.1),
+        }
     }
 }
 
@@ -27,35 +34,18 @@ fn lowest(points: &[(i32, i32)], axis: Axis) -> i64
     requires { 1 ≤ length points.now }
     ensures { Least (length points.now) (λ i. number_on axis (point_in points.now i)) result }
 {
-    let mut low = reading(points[0], axis);
-    for i in 1..points.len() {
-        let other = reading(points[i], axis);
-        if other < low {
-            low = other;
-        }
-    }
-    low
-}
-
-// How far x is above `low`.
-fn above(x: i64, low: i64) -> u64
-    requires near { (unsigned_abs x ≤ 100000) × (unsigned_abs low ≤ 100000) }
-    requires order { low ≤ℤ x }
-    ensures { x ≡ low +ℤ pos result }
-{
-    (x - low) as u64
+    points.iter().map(|p| axis.number(*p)).min().unwrap()
 }
 
 // How far each point is above `low` on the axis.
 fn lift(points: &[(i32, i32)], axis: Axis, low: i64, places: &mut [u64])
     requires room { length places.old ≡ length points.now }
     requires order { (i : ℕ) → i < length points.now → low ≤ℤ number_on axis (point_in points.now i) }
-    requires near { (i : ℕ) → i < length points.now → unsigned_abs (number_on axis (point_in points.now i)) ≤ 100000 }
-    requires low { unsigned_abs low ≤ 100000 }
     ensures { (i : ℕ) → i < length points.now → number_on axis (point_in points.now i) ≡ low +ℤ pos (slice_index places.new i) }
 {
-    for i in 0..points.len() {
-        places[i] = above(reading(points[i], axis), low);
+    // Not a zip with the points (tried): after an `iter_mut` through an adapter no invariant can name the places.
+    for (i, place) in places.iter_mut().enumerate() {
+        *place = axis.number(points[i]).abs_diff(low);
     }
 }
 
@@ -64,13 +54,7 @@ fn widest(places: &[u64]) -> u64
     requires { 1 ≤ length places.now }
     ensures { Most (length places.now) (λ i. slice_index places.now i) result }
 {
-    let mut width = places[0];
-    for i in 1..places.len() {
-        if width < places[i] {
-            width = places[i];
-        }
-    }
-    width
+    *places.iter().max().unwrap()
 }
 
 // The position at a place.
@@ -81,39 +65,42 @@ fn position(low: i64, place: u64) -> i32
     (low + place as i64) as i32
 }
 
-// The positions at the first n places, and 0 behind them.
-fn positions(low: i64, places: [u64; 12], n: usize) -> [i32; 12]
+// The positions at the places, and 0 behind them.
+fn positions(low: i64, places: &[u64]) -> [i32; 12]
     requires low { unsigned_abs low ≤ 100000 }
-    requires few { n ≤ 12 }
-    requires near { (j : ℕ) → j < n → slice_index places j ≤ 200000 }
-    ensures at { (j : ℕ) → j < n → slice_index_or result j (pos 0) ≡ low +ℤ pos (slice_index places j) }
-    ensures behind { (j : ℕ) → n ≤ j → slice_index_or result j (pos 0) ≡ pos 0 }
+    requires few { length places.now ≤ 12 }
+    requires near { (j : ℕ) → j < length places.now → slice_index places.now j ≤ 200000 }
+    ensures at { (j : ℕ) → j < length places.now → slice_index_or result j (pos 0) ≡ low +ℤ pos (slice_index places.now j) }
+    ensures behind { (j : ℕ) → length places.now ≤ j → slice_index_or result j (pos 0) ≡ pos 0 }
 {
-    let mut all = [0; 12];
-    for j in 0..n {
-        all[j] = position(low, places[j]);
-    }
-    all
+    array::from_fn(|j| match places.get(j) {
+        Some(place) => position(low, *place),
+        None => 0,
+    })
 }
 
-// The greatest positions on the axis, or a chain that is too short on it.
-pub(crate) fn on_axis(
-    points: &[(i32, i32)],
-    feeders: &[[Steps; 12]],
-    links: &[[Steps; 12]],
-    axis: Axis,
-) -> Result<[i32; 12], Held>
-    requires { Sound points.now feeders.now links.now }
-    ensures { SolvedOn (layout_of points.now feeders.now links.now) (λ i. number_on axis (point_in points.now i)) result }
-{
-    let low = lowest(points, axis);
-    let mut all = [0; 52];
-    let all = &mut all[..];
-    let places = &mut all[0..points.len()];
-    lift(points, axis, low, places);
-    let width = widest(places);
-    match highest(places, width, feeders, links) {
-        Ok(found) => Ok(positions(low, found, links.len())),
-        Err(held) => Err(held),
+impl Checked<'_> {
+    // The greatest positions on the axis, or a chain that is too short on it.
+    pub(crate) fn on_axis(&self, axis: Axis) -> Result<[i32; 12], Chain>
+        ensures { let N = self.now.network in SolvedOn (network_layout N) (λ i. number_on axis (point_in N.points.now i)) result }
+    {
+        let Network {
+            points,
+            feeders,
+            links,
+        } = self.network;
+        let low = lowest(points, axis);
+        let mut places = [0; 52];
+        // By the rows and not by the points, which are as many: the loops over both then test one length.
+        let places = &mut places[..feeders.len()];
+        lift(points, axis, low, places);
+        let line = Problem {
+            places,
+            width: widest(places),
+            feeders,
+            links,
+        };
+        let found = line.highest()?;
+        Ok(positions(low, &found[..links.len()]))
     }
 }

@@ -1,85 +1,20 @@
 // The problem on one line, whose lower end is 0: the highest places of the pillars, or a chain that is too short.
-ghost use Rattle.std.specs.Prelude.{◌≡◌, ℕ, ◌^◌, ◌<◌, ◌≤◌, length, MatchBool, MatchOption, slice_index, slice_index_or};
-ghost use Rattle.chains.specs.Measures.{no_steps, add_steps};
-ghost use Rattle.chains.specs.declared.measure.Steps.TheVariants.{Limited};
-ghost use Rattle.network.specs.Chain.{Written};
-ghost use Rattle.network.specs.Tables.{reach_in};
-ghost use Rattle.network.specs.Line.{Start, Upto, TooLow, Tight, steps_of};
-ghost use Rattle.network.specs.Lines.{line_of, Shaped, HeldDown, Solved};
+ghost use Rattle.std.specs.Prelude.{◌≡◌, ◌<◌, ◌≤◌, length, MatchBool};
+ghost use Rattle.std.proofs.Props.{props};
+ghost use Rattle.network.specs.Line.{Upto, TooLow, steps_of};
+ghost use Rattle.network.specs.Tables.{Shaped};
 
+use super::answer::Chain;
 use chains::measure::{Measure, Steps};
 use chains::read::chain_to;
-use chains::search::best_chains;
+use chains::search::{BestChains, best_chains};
+use std::array;
 
 // The number of steps, or 0 where there is no limit.
 fn steps_in(s: Steps) -> u64
     ensures { result ≡ steps_of s }
 {
-    match s {
-        Steps::Limited(x) => x,
-        Steps::Unlimited => 0,
-    }
-}
-
-// How far from the lower end the point i lets the pillar j go.
-fn offer(places: &[u64], feeders: &[[Steps; 12]], i: usize, j: usize) -> Steps
-    requires point { i < length places.now }
-    requires rows { length feeders.now ≡ length places.now }
-    requires pillar { j < 12 }
-    ensures { result ≡ add_steps (Limited (slice_index places.now i)) (reach_in feeders.now i j) }
-{
-    Steps::Limited(places[i]).join(feeders[i][j])
-}
-
-// How far the pillar j can go by one feeder.
-fn start(places: &[u64], width: u64, feeders: &[[Steps; 12]], j: usize) -> Steps
-    requires rows { length feeders.now ≡ length places.now }
-    requires pillar { j < 12 }
-    ensures { Start (length places.now) width (λ i. slice_index places.now i) (λ i. reach_in feeders.now i j) result }
-{
-    let mut best = Steps::Limited(width);
-    for i in 0..places.len() {
-        let other = offer(places, feeders, i, j);
-        if !best.at_least_as_good(other) {
-            best = other;
-        }
-    }
-    best
-}
-
-// How far each pillar can go by one feeder.
-fn starts(places: &[u64], width: u64, feeders: &[[Steps; 12]], first: &mut [Steps])
-    requires rows { length feeders.now ≡ length places.now }
-    requires few { length first.old ≤ 12 }
-    ensures { (j : ℕ) → j < length first.new → Start (length places.now) width (λ i. slice_index places.now i) (λ i. reach_in feeders.now i j) (slice_index_or first.new j no_steps) }
-{
-    for j in 0..first.len() {
-        first[j] = start(places, width, feeders, j);
-    }
-}
-
-// Whether a point at `place` is more than the reach above x.
-fn is_above(place: u64, x: u64, reach: Steps) -> bool
-    ensures { MatchBool result (TooLow reach place x) (Upto reach place x) }
-{
-    match reach {
-        Steps::Limited(r) => place.saturating_sub(x) > r,
-        Steps::Unlimited => false,
-    }
-}
-
-// The first point that is too high for the pillar j at the place x.
-fn point_above(places: &[u64], feeders: &[[Steps; 12]], j: usize, x: u64) -> Option<usize>
-    requires rows { length feeders.now ≡ length places.now }
-    requires pillar { j < 12 }
-    ensures { MatchOption result ((i : ℕ) → i < length places.now → Upto (reach_in feeders.now i j) (slice_index places.now i) x) (λ i. (i < length places.now) × TooLow (reach_in feeders.now i j) (slice_index places.now i) x) }
-{
-    for i in 0..places.len() {
-        if is_above(places[i], x, feeders[i][j]) {
-            return Some(i);
-        }
-    }
-    None
+    s.unwrap_or(0)
 }
 
 // A point, by its place in the list, and a pillar that is too low for it.
@@ -89,118 +24,154 @@ struct Low {
     pillar: usize,
 }
 
-// A pillar whose best chain ends too low for some point, if there is one.
-fn too_low(places: &[u64], feeders: &[[Steps; 12]], best: &[Steps]) -> Option<Low>
-    requires rows { length feeders.now ≡ length places.now }
-    requires few { length best.now ≤ 12 }
-    ensures { MatchOption result ((i j : ℕ) → i < length places.now → j < length best.now → Upto (reach_in feeders.now i j) (slice_index places.now i) (steps_of (slice_index_or best.now j no_steps))) (λ p. (p.point < length places.now) × (p.pillar < length best.now) × TooLow (reach_in feeders.now p.point p.pillar) (slice_index places.now p.point) (steps_of (slice_index_or best.now p.pillar no_steps))) }
-{
-    for j in 0..best.len() {
-        if let Some(i) = point_above(places, feeders, j, steps_in(best[j])) {
-            return Some(Low {
-                point: i,
-                pillar: j,
-            });
-        }
-    }
-    None
-}
-
-// The first point whose offer to the pillar p is `value`.
-fn giver(places: &[u64], feeders: &[[Steps; 12]], p: usize, value: Steps) -> usize
-    requires rows { length feeders.now ≡ length places.now }
-    requires pillar { p < 12 }
-    requires some { (i : ℕ) × (i < length places.now) × (value ≡ add_steps (Limited (slice_index places.now i)) (reach_in feeders.now i p)) }
-    ensures within { result < length places.now }
-    ensures gives { value ≡ add_steps (Limited (slice_index places.now result)) (reach_in feeders.now result p) }
-{
-    for i in 0..places.len() {
-        if offer(places, feeders, i, p) == value {
-            return i;
-        }
-    }
-    unreachable()
-}
-
-// A chain from a point up to another that is too short. The first `count` entries of `pillars` are its pillars, and behind them stands 0.
+// The places of the points on the line, the length of the line, and the reaches.
 #[derive(Clone, Copy)]
-pub(crate) struct Held {
-    pub from: usize,
-    pub to: usize,
-    pub total: u64,
-    pub count: usize,
-    pub pillars: [u8; 12],
+pub(crate) struct Problem<'a> {
+    pub places: &'a [u64],
+    pub width: u64,
+    pub feeders: &'a [[Steps; 12]],
+    pub links: &'a [[Steps; 12]],
+    ghost shaped: { Shaped places.now width feeders.now links.now } by { Prim.hlevel props },
+    ghost most: { length places.now ≤ 52 },
 }
 
-// The chain that holds the pillar of `low` down, from the point that gave its first pillar its start value.
-fn holding_chain(
-    places: &[u64],
-    width: u64,
-    feeders: &[[Steps; 12]],
-    links: &[[Steps; 12]],
-    first: &[Steps],
-    best: &[Steps],
-    before: &[u8],
-    low: Low,
-) -> Held
-    requires { HeldDown places.now width feeders.now links.now first.now best.now before.now low.point low.pillar }
-    ensures { Written (λ c. Tight (line_of places.now width feeders.now links.now) result.from result.to c result.total) result.count result.pillars }
-{
-    let mut pillars = [0; 12];
-    let Some(count) = chain_to(before, low.pillar as u8, &mut pillars) else {
-        unreachable()
-    };
-    let start = pillars[0] as usize;
-    let from = giver(places, feeders, start, first[start]);
-    let total = steps_in(best[low.pillar]) + steps_in(feeders[low.point][low.pillar])
-        - places[from];
-    Held {
-        from,
-        to: low.point,
-        total,
-        count,
-        pillars,
+// A pillar on the line, by its number.
+#[derive(Clone, Copy)]
+struct Pillar<'a> {
+    line: &'a Problem<'a>,
+    number: usize,
+    ghost within: { number < 12 },
+}
+
+impl Pillar<'_> {
+    ghost use Rattle.std.specs.Prelude.{ℕ, MatchOption, Some, slice_index_or};
+    ghost use Rattle.chains.specs.Measures.{no_steps, add_steps};
+    ghost use Rattle.network.specs.Line.{Start, offer_of};
+    ghost use Rattle.network.specs.Lines.{line_of};
+
+    // How far a point with these reaches lets the pillar go.
+    fn offer(&self, place: u64, row: &[Steps; 12]) -> Steps
+        ensures { result ≡ add_steps (Some place) (slice_index_or row.now self.now.number no_steps) }
+    {
+        Some(place).join(row[self.number])
+    }
+
+    // How far the pillar can go by one feeder.
+    fn start(&self) -> Steps
+        ensures { Start (line_of self.now.line.now) self.now.number result }
+    {
+        let mut best = Some(self.line.width);
+        for (place, row) in self.line.places.iter().zip(self.line.feeders) {
+            let other = self.offer(*place, row);
+            if !best.at_least_as_good(other) {
+                best = other;
+            }
+        }
+        best
+    }
+
+    // Whether the pillar at x is too low for a point with these reaches.
+    fn is_too_low(&self, x: u64, place: u64, row: &[Steps; 12]) -> bool
+        ensures { let reach = slice_index_or row.now self.now.number no_steps in MatchBool result (TooLow reach place x) (Upto reach place x) }
+    {
+        row[self.number].is_some_and(|r| place.saturating_sub(x) > r)
+    }
+
+    // The first point that the pillar at x is too low for.
+    fn point_above(&self, x: u64) -> Option<usize>
+        ensures { let l = line_of self.now.line.now in let j = self.now.number in MatchOption result ((i : ℕ) → i < l.points → Upto (l.feeder i j) (l.at i) x) (λ i. (i < l.points) × TooLow (l.feeder i j) (l.at i) x) }
+    {
+        let mut points = self.line.places.iter().zip(self.line.feeders);
+        points.position(|(place, row)| self.is_too_low(x, *place, row))
+    }
+
+    // The first point whose offer to the pillar is `value`.
+    fn giver(&self, value: Steps) -> usize
+        requires { let l = line_of self.now.line.now in (i : ℕ) × (i < l.points) × (value ≡ offer_of l i self.now.number) }
+        ensures within { result < (line_of self.now.line.now).points }
+        ensures gives { value ≡ offer_of (line_of self.now.line.now) result self.now.number }
+    {
+        let mut points = self.line.places.iter().zip(self.line.feeders);
+        let Some(i) = points.position(|(place, row)| self.offer(*place, row) == value) else {
+            unreachable()
+        };
+        i
     }
 }
 
-// The steps of each chain. (What stands behind them says nothing.)
-fn all_steps(best: &[Steps]) -> [u64; 12]
-    requires { length best.now ≤ 12 }
-    ensures { (j : ℕ) → j < length best.now → slice_index result j ≡ steps_of (slice_index_or best.now j no_steps) }
-{
-    let mut all = [0; 12];
-    for j in 0..best.len() {
-        all[j] = steps_in(best[j]);
-    }
-    all
-}
+impl Problem<'_> {
+    ghost use Rattle.std.specs.Prelude.{ℕ, MatchOption, slice_index_or};
+    ghost use Rattle.chains.specs.Measures.{no_steps};
+    ghost use Rattle.network.specs.Line.{Start, Tight};
+    ghost use Rattle.network.specs.Lines.{line_of, HeldDown, Solved};
 
-// The highest places of the pillars, or a chain that is too short.
-pub(crate) fn highest(
-    places: &[u64],
-    width: u64,
-    feeders: &[[Steps; 12]],
-    links: &[[Steps; 12]],
-) -> Result<[u64; 12], Held>
-    requires { Shaped places.now width feeders.now links.now }
-    ensures { Solved (line_of places.now width feeders.now links.now) result }
-{
-    let n = links.len();
-    let mut first_values = [Steps::Unlimited; 12];
-    let mut best_values = [Steps::Unlimited; 12];
-    let mut earlier = [0; 12];
-    let first_values = &mut first_values[..];
-    let best_values = &mut best_values[..];
-    let earlier = &mut earlier[..];
-    let first = &mut first_values[0..n];
-    let best = &mut best_values[0..n];
-    let before = &mut earlier[0..n];
-    starts(places, width, feeders, first);
-    let Ok(()) = best_chains(first, links, best, before) else {
-        unreachable()
-    };
-    match too_low(places, feeders, best) {
-        Some(low) => Err(holding_chain(places, width, feeders, links, first, best, before, low)),
-        None => Ok(all_steps(best)),
+    // The pillar of a number.
+    fn pillar(&self, number: usize) -> Pillar<'_>
+        requires { number < 12 }
+        ensures line { result.line.now ≡ self.now }
+        ensures number { result.number ≡ number }
+    {
+        Pillar { line: self, number }
+    }
+
+    // How far each pillar can go by one feeder.
+    fn starts(&self) -> [Steps; 12]
+        ensures { let l = line_of self.now in (j : ℕ) → j < l.pillars → Start l j (slice_index_or result j no_steps) }
+    {
+        array::from_fn(|j| {
+            if j < self.links.len() {
+                self.pillar(j).start()
+            } else {
+                None
+            }
+        })
+    }
+
+    // A pillar whose best chain ends too low for some point, if there is one.
+    fn too_low(&self, best: &[Steps; 12]) -> Option<Low>
+        ensures { let l = line_of self.now in MatchOption result ((i j : ℕ) → i < l.points → j < l.pillars → Upto (l.feeder i j) (l.at i) (steps_of (slice_index_or best.now j no_steps))) (λ p. (p.point < l.points) × (p.pillar < l.pillars) × TooLow (l.feeder p.point p.pillar) (l.at p.point) (steps_of (slice_index_or best.now p.pillar no_steps))) }
+    {
+        for (j, b) in best[..self.links.len()].iter().enumerate() {
+            if let Some(point) = self.pillar(j).point_above(steps_in(*b)) {
+                return Some(Low { point, pillar: j });
+            }
+        }
+        None
+    }
+
+    // The chain that holds the pillar of `low` down, from the point that gave its first pillar its start value.
+    fn holding_chain(&self, first: &[Steps], best: &BestChains<Steps>, low: Low) -> Chain
+        requires { HeldDown self.now first.now best.now.values best.now.before low.point low.pillar }
+        ensures { Tight (line_of self.now) result.from result.to result.pillars.items result.total }
+    {
+        let Some(pillars) = chain_to(&best.before, low.pillar as u8) else {
+            unreachable()
+        };
+        let start = pillars[0] as usize;
+        let from = self.pillar(start).giver(first[start]);
+        let total = steps_in(best.values[low.pillar])
+            + steps_in(self.feeders[low.point][low.pillar])
+            - self.places[from];
+        Chain {
+            from: from as u8,
+            to: low.point as u8,
+            total,
+            pillars,
+        }
+    }
+
+    // The highest places of the pillars, or a chain that is too short.
+    pub(crate) fn highest(&self) -> Result<[u64; 12], Chain>
+        ensures { Solved (line_of self.now) result }
+    {
+        let starts = self.starts();
+        let first = &starts[..self.links.len()];
+        let Ok(best) = best_chains(first, self.links) else {
+            unreachable()
+        };
+        match self.too_low(&best.values) {
+            Some(low) => Err(self.holding_chain(first, &best, low)),
+            None => Ok(best.values.map(steps_in)),
+        }
     }
 }

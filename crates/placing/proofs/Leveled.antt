@@ -18,7 +18,6 @@ use Rattle.runs.specs.Levels.{Placing, site_at, spot_or_origin, price_of, greate
 use Rattle.runs.specs.Pricing.{price_at}
 use Rattle.runs.specs.Shortness.{run_limit}
 use Rattle.runs.specs.Dearest.{site_spot, spots_of, price_by}
-use Rattle.runs.specs.declared.dearest.Stand.TheVariants.{At}
 use Rattle.runs.proofs.Listed.{all_runs}
 use Rattle.runs.proofs.Ruling.{clash_none, chain_floor, fixed_floor}
 use Rattle.placing.specs.Networked.{FitsAt}
@@ -29,10 +28,10 @@ use Rattle.placing.specs.Steps.{Placed}
 pub forced_floor : (F : InForce) (start L : ℕ) (r : Run) (below : Option ShortChain) → FirstWith (λ s. (run_terms F s).fixed ≡ start) (runs_of F) r →
     Forced F start L below → NoneLower F L
 forced_floor F start L r None first e = subst (NoneLower F) (sym e) (fixed_floor F start r first)
-forced_floor F start L r (Some c) first (h, W) = chain_floor F L c.from c.to c.gap c.total W.chain (omega arith) W.holds
+forced_floor F start L r (Some c) first (h, W) = chain_floor F L c.chain.from c.chain.to c.gap c.chain.total c.chain.pillars.items (omega arith) W
 
 pub clash_refuses : (F : InForce) (c : ShortChain) → ChainShort F (run_limit F) c → NoneKeeps F
-clash_refuses F c W = clash_none F c.from c.to c.gap c.total W.chain W.holds
+clash_refuses F c W = clash_none F c.chain.from c.chain.to c.gap c.chain.total c.chain.pillars.items W
 
 pub found_placed : (F : InForce) (L : ℕ) (P : Placing) → NoneLower F L → Found F L P → Placed F L P
 found_placed F L P none f = record {
@@ -60,13 +59,13 @@ module _ (F : InForce) (sites : List Site) (n : ℕ) (count : n ≡ F.count) (ma
   pub front_read : (at : Positions) → ((j : ℕ) → j < n → IsReading (site_at (spots_of sites) j).hx (site_at (spots_of sites) j).hy (position_in at j)) → ReadAs F front_sites (position_in at)
   front_read at read j h = subst (λ s. IsReading s.hx s.hy (position_in at j)) (sym (at_front j h)) (read j (omega arith))
 
-  same_prices : (rs : List Run) → AllByRecursion (λ r. price_by F (At sites) r ≡ price_of F front_sites r) rs → map (price_by F (At sites)) rs ≡ map (price_of F front_sites) rs
+  same_prices : (rs : List Run) → AllByRecursion (λ r. price_by F (Some sites) r ≡ price_of F front_sites r) rs → map (price_by F (Some sites)) rs ≡ map (price_of F front_sites) rs
   same_prices [] h = refl
-  same_prices (r ∷ rs) h = ap (λ x. x ∷ map (price_by F (At sites)) rs) h.0 ∙ ap (λ l. price_of F front_sites r ∷ l) (same_prices rs h.1)
+  same_prices (r ∷ rs) h = ap (λ x. x ∷ map (price_by F (Some sites)) rs) h.0 ∙ ap (λ l. price_of F front_sites r ∷ l) (same_prices rs h.1)
 
-  pub front_level : greatest (map (price_by F (At sites)) (runs_of F)) ≡ level_of F front_sites
+  pub front_level : greatest (map (price_by F (Some sites)) (runs_of F)) ≡ level_of F front_sites
   front_level =
-      ap greatest (same_prices (runs_of F) (all_runs (λ r. price_by F (At sites) r ≡ price_of F front_sites r) F
+      ap greatest (same_prices (runs_of F) (all_runs (λ r. price_by F (Some sites) r ≡ price_of F front_sites r) F
       (λ m p s stands h. ap (λ t. price_at (run_terms F (Feeder m p)) (steps_between (spot_or_origin (mast_spot F m)) t)) (sym (at_front p h)))
       (λ p q o h. ap (λ t. price_at (run_terms F (Link p q)) (steps_between t (site_at (spots_of sites) q))) (sym (at_front p (omega arith))) ∙ ap (λ t. price_at (run_terms F (Link p q)) (steps_between (site_at front_sites p) t)) (sym (at_front q h)))))
 
@@ -74,7 +73,7 @@ module _ (F : InForce) (sites : List Site) (n : ℕ) (count : n ≡ F.count) (ma
 pub placed_at : (F : InForce) (start L : ℕ) (r : Run) (below : Option ShortChain) (at : Positions) (sites : List Site) (n cents : ℕ) →
     FirstWith (λ s. (run_terms F s).fixed ≡ start) (runs_of F) r → Forced F start L below → FitsAt F L (Ok at) → n ≡ F.count → n ≤ length sites →
     ((j : ℕ) → j < n → IsReading (site_at (spots_of sites) j).hx (site_at (spots_of sites) j).hy (position_in at j)) →
-    cents ≡ greatest (map (price_by F (At sites)) (runs_of F)) → (cents ≡ L) × Placed F cents (spots_of (take (n - 0) sites))
+    cents ≡ greatest (map (price_by F (Some sites)) (runs_of F)) → (cents ≡ L) × Placed F cents (spots_of (take (n - 0) sites))
 unfolding front_sites
 placed_at F start L r below at sites n cents first forced fits count many read e =
     let P = front_sites F sites n count many in

@@ -2,7 +2,6 @@ pub mod Once
 pub mod FeetFound
 pub mod Networking
 pub mod Summing
-pub mod Gathered
 pub mod Topmost
 pub mod Raising
 pub mod Sited

@@ -2,13 +2,18 @@
 use Rattle.std.proofs.Common.{◌≡◌, ℕ, ◌<◌, ◌≤◌, true, not, List, length, ℤ, ◌+ℤ◌, ◌-ℤ◌, nat_abs, ◌≤ℤ◌, Some, None, Ok, Err, Option, sym, refl, ap, ◌∙◌, subst, arith}
 use Rattle.std.specs.List.{AllByRecursion}
 use Rattle.std.proofs.lemmas.Int.{ints}
-use Rattle.std.proofs.lemmas.Bool.{and_parts, not-true, ltb-false}
-use Rattle.chains.specs.declared.measure.Steps.{Steps}
+use Rattle.std.proofs.lemmas.Bool.{and_parts, not-true, ltb-false, false≢true}
+use Rattle.std.proofs.lemmas.Bool.Decides.{Decides-int_eq}
+use Rattle.std.proofs.lemmas.List.{get_or_default}
+use Rattle.std.proofs.lemmas.List.Folds.{Any-from_list_any}
+use Rattle.std.specs.Ordering.{int_eq}
+use Rattle.chains.specs.Measures.{Steps}
 use Rattle.network.specs.declared.answer.Positions.{Positions}
 use Rattle.network.specs.declared.answer.ShortChain.{ShortChain}
 use Rattle.network.specs.Layout.{Between}
 use Rattle.network.specs.Networks.{position_in, Placed, ShortTold}
 use Rattle.network.specs.Tables.{Near, point_in, reach_in, layout_of, Sound}
+use Rattle.yard.specs.Grid.{IsReading}
 use Rattle.yard.specs.Force.{mast_at}
 use Rattle.yard.specs.Sound.{foot_on_grid, on_grid}
 use Rattle.yard.specs.Edits.{off_grid}
@@ -16,13 +21,15 @@ use Rattle.yard.specs.declared.force.InForce.{InForce}
 use Rattle.yard.specs.declared.force.Mast.{Mast}
 use Rattle.yard.specs.declared.force.Point.{Point}
 use Rattle.yard.specs.declared.force.Run.TheVariants.{Feeder, Link}
-use Rattle.runs.specs.Spots.{Spot, StandsAt, foot_spot, foot_or, point_reading}
+use Rattle.runs.specs.Spots.{Spot, StandsAt, SomeMast, spot_of, foot_spot, foot_or, point_reading}
 use Rattle.runs.specs.Order.{runs_of, run_terms}
 use Rattle.runs.specs.Shortness.{reach_of}
 use Rattle.runs.proofs.Modelled.{Models, Footed}
 use Rattle.runs.proofs.Bridging.{told_from}
+use Rattle.runs.proofs.Listed.{mast_there}
 use Rattle.runs.proofs.Ruling.{foot_read, standing_reach, absent_reach, reach_even, found_from}
-use Rattle.placing.specs.Networked.{mast_reach, Pointed, FitsAt}
+use Rattle.placing.specs.Feet.{reads, some_reads}
+use Rattle.placing.specs.Networked.{mast_reach, FitsAt}
 
 -- a point on the grid, by either of its coordinates and by its reading
 on_axis_lem : (z : ℤ) → not (off_grid z) ≡ true → nat_abs z ≤ 50000
@@ -45,33 +52,47 @@ between_near m a x h b = inside _ _ x b.low.2 b.high.2 (h b.low.0 b.low.1) (h b.
     inside : (l u z : ℤ) → l ≤ℤ z → z ≤ℤ u → nat_abs l ≤ 100000 → nat_abs u ≤ 100000 → nat_abs z ≤ 100000
     inside l u z p q r s = omega (arith, ints)
 
-module _ (F : InForce) (grid : (m : ℕ) → on_grid F m ≡ true) where
-  foot_or_near : (m : ℕ) (first : Point) → OnGrid first → OnGrid (foot_or (mast_at F m) first)
-  foot_or_near m first near = go (mast_at F m) refl
-    where
-      go : (o : Option Mast) → mast_at F m ≡ o → OnGrid (foot_or o first)
-      go (Some a) e = foot_near F m a (grid m) e
-      go None e = near
+-- what has the reading of a mast is the reading of one
+pub reads_is : (p : ℤ × ℤ) (o : Option Mast) → reads p o ≡ true → (a : Mast) × (o ≡ Some a) × (p ≡ point_reading a.at)
+reads_is p (Some a) e =
+    let both = and_parts (int_eq (a.at.x +ℤ a.at.y) p.0) (int_eq (a.at.x -ℤ a.at.y) p.1) e in
+    let x = (Decides-int_eq (a.at.x +ℤ a.at.y) p.0).0 both.0 in
+    let y = (Decides-int_eq (a.at.x -ℤ a.at.y) p.1).0 both.1 in
+    (a, refl, sym (ap (λ (z : ℤ). (z, a.at.x -ℤ a.at.y)) x ∙ ap (λ (z : ℤ). (p.0, z)) y))
+reads_is p None e = absurd (false≢true e)
 
+-- the fixed points of a plan: each mast has one by its number, and each is the reading of a mast
+pub record Pointed (F : InForce) (points : List (ℤ × ℤ)) : Type 0 where
+  pub some : 0 < length points
+  pub most : length points ≤ 40
+  pub masts : (m : ℕ) (a : Mast) → mast_at F m ≡ Some a → (m < length points) × (point_in points m ≡ point_reading a.at)
+  pub feet : (i : ℕ) → i < length points → some_reads F (point_in points i) ≡ true
+
+-- the mast whose reading a point is
+pub mast_of : (F : InForce) (p : ℤ × ℤ) → some_reads F p ≡ true → (m : ℕ) × (a : Mast) × (mast_at F m ≡ Some a) × (p ≡ point_reading a.at)
+mast_of F p e =
+    let x = Any-from_list_any (reads p) F.masts e in
+    let r = reads_is p (mast_at F x.0) (rw (get_or_default F.masts x.0 None x.1 x.2) (rw x.3 x.4)) in
+    (x.0, r.0, r.1, r.2)
+
+pub some_mast : (F : InForce) (points : List (ℤ × ℤ)) → 0 < length points → ((i : ℕ) → i < length points → some_reads F (point_in points i) ≡ true) → SomeMast F
+some_mast F points some feet = let (m, a, e, is) = mast_of F (point_in points 0) (feet 0 some) in (m, spot_of a.at, ap foot_spot e)
+
+module _ (F : InForce) (grid : (m : ℕ) → on_grid F m ≡ true) where
   module _ (L : ℕ) (points : List (ℤ × ℤ)) (feeders links : List (List Steps)) (P : Pointed F points) (counted : (0 < F.count) × (F.count ≤ 12))
       (rows : length feeders ≡ length points) (row_a_pillar : length links ≡ F.count)
       (feeder_is : (m p : ℕ) → m < length feeders → p < F.count → reach_in feeders m p ≡ mast_reach (mast_at F m) L p)
       (link_is : (p q : ℕ) → p < F.count → q < F.count → reach_in links p q ≡ reach_of F L (Link p q)) where
-    first_near : OnGrid P.foot.first
-    first_near =
-        let mast = P.feet.mast in
-        subst OnGrid (sym mast.4) (foot_near F mast.0 mast.1 (grid mast.0) mast.3)
-
     near : (i : ℕ) → i < length points → Near (point_in points i)
     near i h =
-        let on = foot_or_near i P.foot.first first_near in
-        let at = foot_or (mast_at F i) P.foot.first in
-        subst Near (sym (P.spots i h)) (sums_near at.x at.y on.0 on.1)
+        let (m, a, e, is) = mast_of F (point_in points i) (P.feet i h) in
+        let on = foot_near F m a (grid m) e in
+        subst Near (sym is) (sums_near a.at.x a.at.y on.0 on.1)
 
     pub sound : Sound points feeders links
     sound = record {
-      some = omega (arith, P.long, P.feet.mast.2);
-      most = omega (arith, P.long, P.feet.few);
+      some = P.some;
+      most = omega (arith, P.most);
       rows = rows;
       pillars = omega (arith, row_a_pillar, counted.0);
       few = omega (arith, row_a_pillar, counted.1);
@@ -79,33 +100,24 @@ module _ (F : InForce) (grid : (m : ℕ) → on_grid F m ≡ true) where
       even = λ j k u v. link_is j k (omega (arith, row_a_pillar)) (omega (arith, row_a_pillar)) ∙ reach_even F L j k ∙ sym (link_is k j (omega (arith, row_a_pillar)) (omega (arith, row_a_pillar)));
     }
 
-    covers : (m : ℕ) (s : Spot) → StandsAt F m s → m < length points
-    covers m s e = omega (arith, P.long, P.feet.covers m s e)
+    stands_at : (m : ℕ) (s : Spot) → StandsAt F m s → (m < length points) × IsReading s.hx s.hy (point_in points m)
+    stands_at m s e =
+        let (a, is) = mast_there (mast_at F m) s e in
+        let at = P.masts m a is in
+        (at.0, rw (at.1 ∙ sym (ap (λ o. point_reading (foot_or o a.at)) is)) (foot_read (mast_at F m) a.at s e))
 
     models : Models F (reach_of F L) (layout_of points feeders links)
     models = record {
       pillars = row_a_pillar;
-      covers = covers;
-      point = λ m s e. rw (P.spots m (covers m s e)) (foot_read (mast_at F m) P.foot.first s e);
-      feeder = λ m p s e u. feeder_is m p (omega (arith, rows, covers m s e)) u ∙ standing_reach (mast_at F m) s (reach_of F L (Feeder m p)) e;
+      covers = λ m s e. (stands_at m s e).0;
+      point = λ m s e. (stands_at m s e).1;
+      feeder = λ m p s e u. feeder_is m p (omega (arith, rows, (stands_at m s e).0)) u ∙ standing_reach (mast_at F m) s (reach_of F L (Feeder m p)) e;
       absent = λ i p u e v. feeder_is i p (omega (arith, rows)) v ∙ absent_reach (mast_at F i) (reach_of F L (Feeder i p)) e;
       link = link_is;
     }
 
-    -- a point with no mast of its own lies where the first mast stands
     footed : Footed F (layout_of points feeders links)
-    footed i h = go (mast_at F i) refl
-      where
-        mast : (m : ℕ) (a : Mast) → mast_at F m ≡ Some a → point_in points i ≡ point_reading a.at → (k : ℕ) × (s : Spot) × StandsAt F k s × (point_in points i ≡ point_in points k)
-        mast m a e is =
-            let stands : StandsAt F m _ = ap foot_spot e in
-            (m, _, stands, is ∙ sym (P.spots m (covers m _ stands) ∙ ap (λ o. point_reading (foot_or o P.foot.first)) e))
-
-        go : (o : Option Mast) → mast_at F i ≡ o → (k : ℕ) × (s : Spot) × StandsAt F k s × (point_in points i ≡ point_in points k)
-        go (Some a) e = mast i a e (P.spots i h ∙ ap (λ o. point_reading (foot_or o P.foot.first)) e)
-        go None e =
-            let there = P.feet.mast in
-            mast there.0 there.1 there.3 (P.spots i h ∙ ap (λ o. point_reading (foot_or o P.foot.first)) e ∙ ap point_reading there.4)
+    footed i h = let (m, a, e, is) = mast_of F (point_in points i) (P.feet i h) in (m, spot_of a.at, ap foot_spot e, is ∙ sym (P.masts m a e).1)
 
     pub fits_ok : AllByRecursion (λ r. (run_terms F r).fixed ≤ L) (runs_of F) → (at : Positions) → Placed (layout_of points feeders links) at → FitsAt F L (Ok at)
     fits_ok paid at G = (
@@ -118,9 +130,5 @@ module _ (F : InForce) (grid : (m : ℕ) → on_grid F m ≡ true) where
     )
 
     pub fits_short : (c : ShortChain) → ShortTold (layout_of points feeders links) c → FitsAt F L (Err c)
-    fits_short c S = record {
-      chain = S.chain.chain;
-      holds = told_from F (reach_of F L) (layout_of points feeders links) models c.from c.to S.chain.chain c.gap c.total S.chain.holds S.order;
-      long = S.chain.long;
-      written = S.chain.written;
-    }
+    fits_short c S =
+        told_from F (reach_of F L) (layout_of points feeders links) models c.chain.from c.chain.to c.chain.pillars.items c.gap c.chain.total S.chain S.order

@@ -7,7 +7,7 @@ use Rattle.std.proofs.lemmas.Bool.{cases_order}
 use Rattle.yard.specs.declared.force.InForce.{InForce}
 use Rattle.yard.specs.declared.force.Run.{Run}
 use Rattle.yard.specs.declared.fault.Refusal.{Refusal}
-use Rattle.yard.specs.declared.fault.Layer.TheVariants as layer
+use Rattle.yard.specs.declared.fault.Rule.TheVariants as rule
 use Rattle.yard.specs.Rows.{refusal_of}
 use Rattle.runs.specs.Spots.{Spot, twice_sum, twice_difference, origin}
 use Rattle.runs.specs.Order.{runs_of, run_terms, FirstWith}
@@ -75,7 +75,7 @@ bars_once F need room r s (inr (inl h)) (inr (inl k)) = h.2 ∙ sym k.2
 bars_once F need room r s (inr (inl h)) (inr (inr k)) = absurd (h.1 k.2)
 bars_once F need room r s (inr (inr h)) (inl k) = absurd (omega (arith, h.1, k.0))
 bars_once F need room r s (inr (inr h)) (inr (inl k)) = absurd (k.1 h.2)
-bars_once F need room r s (inr (inr h)) (inr (inr k)) = h.4 ∙ ap (refusal_of layer.Placing 14) (lowest_once F h.0 k.0 h.3 k.3) ∙ sym k.4
+bars_once F need room r s (inr (inr h)) (inr (inr k)) = h.4 ∙ ap (refusal_of rule.Loose) (lowest_once F h.0 k.0 h.3 k.3) ∙ sym k.4
 
 never_barred : (F : InForce) (need room : ℕ) (r : Refusal) → Bars F need room r → Ready F → need ≤ room → ⊥
 never_barred F need room r (inl h) y l = omega (arith, h.0)
@@ -85,7 +85,7 @@ never_barred F need room r (inr (inr h)) y l = h.3.1 (y.1 h.0 h.3.0)
 -- why Place is refused
 abbrev Refused : InForce → List ℤ → Refusal → Type 0
 Refused F before r =
-    Bars F (2 * F.count) (length before) r ⊎ (Ready F × (2 * F.count ≤ length before) × NoneKeeps F × (r ≡ refusal_of layer.Placing 15 0))
+    Bars F (2 * F.count) (length before) r ⊎ (Ready F × (2 * F.count ≤ length before) × NoneKeeps F × (r ≡ refusal_of rule.Unkept 0))
 
 placed_refused : (F : InForce) (L : ℕ) (r : Refusal) (P : Placing) (before : List ℤ) → Placed F L P → Ready F → 2 * F.count ≤ length before → Refused F before r → ⊥
 placed_refused F L r P before d y l (inl h) = never_barred F _ _ r h y l

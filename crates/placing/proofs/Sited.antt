@@ -1,29 +1,11 @@
 -- Sites and their halves, one pillar after the other.
-use Rattle.std.proofs.Common.{◌≡◌, ℕ, zero, suc, ◌+◌, ◌*◌, ◌<◌, ◌≤◌, List, [], ◌∷◌, ◌++◌, length, get_or, take, drop, set, ℤ, ◌+ℤ◌, ◌-ℤ◌, nat_abs, sym, refl, ap, ◌∙◌, add-one, arith, below_more}
-use Rattle.std.proofs.lemmas.List.{take_more, drop-drop, length-drop, length-take, length-map, map_push, map-set, get_or-set_same, get_or-set_other}
-use Rattle.std.proofs.lemmas.Int.{ints}
-use Rattle.yard.specs.Grid.{IsReading}
+use Rattle.std.proofs.Common.{◌≡◌, ℕ, zero, suc, ◌+◌, ◌*◌, ◌<◌, ◌≤◌, List, [], ◌∷◌, ◌++◌, length, get_or, take, drop, set, ℤ, sym, refl, ap, ◌∙◌, add-one, arith}
+use Rattle.std.proofs.lemmas.List.{take_more, drop-drop, length-drop, length-take, length-map, map_push}
 use Rattle.yard.specs.declared.site.Site.{Site}
-use Rattle.runs.specs.Spots.{Spot, origin}
-use Rattle.runs.specs.Levels.{Placing, site_at}
+use Rattle.runs.specs.Spots.{Spot}
+use Rattle.runs.specs.Levels.{Placing}
 use Rattle.runs.specs.Dearest.{site_spot, spots_of}
 use Rattle.placing.specs.Steps.{halves_of}
-
--- a reading that is near enough is that of a site
-pub near_enough : (s d : ℤ) → nat_abs s ≤ 100000 → nat_abs d ≤ 100000 → (nat_abs (s +ℤ d) ≤ 200000) × (nat_abs (s -ℤ d) ≤ 200000)
-near_enough s d h k = (omega (arith, ints), omega (arith, ints))
-
-abbrev Reads : (ℕ → ℤ × ℤ) → ℕ → Spot → Type 0
-Reads at k s = IsReading s.hx s.hy (at k)
-
-pub sited_more : (at : ℕ → ℤ × ℤ) (sites : List Site) (p : ℕ) (s : Site) → p < length sites →
-    ((k : ℕ) → k < p → Reads at k (site_at (spots_of sites) k)) → Reads at p (site_spot s) →
-    (k : ℕ) → k < p + 1 → Reads at k (site_at (spots_of (set sites p s)) k)
-sited_more at sites p s h before here =
-    let long : p < length (spots_of sites) = rw length-map h in
-    below_more (λ k. Reads at k (site_at (spots_of (set sites p s)) k)) p
-    (λ k l. rw (map-set site_spot sites p s, get_or-set_other (spots_of sites) p k (site_spot s) origin (omega arith)) (before k l))
-    (rw (map-set site_spot sites p s, get_or-set_same (spots_of sites) p (site_spot s) origin long) here)
 
 halves_push : (P : Placing) (s : Spot) → halves_of (P ++ (s ∷ [])) ≡ halves_of P ++ (s.hx ∷ s.hy ∷ [])
 halves_push [] s = refl

@@ -1,13 +1,13 @@
 -- The reaches of some runs at a level, added up run by run.
-use Rattle.std.proofs.Common.{◌≡◌, ℕ, ◌+◌, ◌-◌, ◌<◌, ◌≤◌, List, ◌∷◌, length, get_or, drop, sym, refl, ◌∙◌, subst, arith}
+use Rattle.std.specs.Prelude.{Some}
+use Rattle.std.proofs.Common.{◌≡◌, ℕ, ◌+◌, ◌<◌, ◌≤◌, List, ◌∷◌, length, get_or, drop, sym, refl, ◌∙◌, subst, arith}
 use Rattle.std.proofs.lemmas.List.{at_drop_more, at_drop_all}
-use Rattle.chains.specs.declared.measure.Steps.{Steps}
-use Rattle.chains.specs.declared.measure.Steps.TheVariants.{Limited, Unlimited}
+use Rattle.chains.specs.Measures.{Steps}
 use Rattle.network.specs.Chain.{AddTo}
 use Rattle.network.proofs.Sums.{add_first, add_cons, limited_same}
 use Rattle.yard.specs.declared.force.Terms.{Terms}
 use Rattle.runs.specs.Pricing.{reach_at}
-use Rattle.placing.specs.Jumping.{reaches_at, LongAt}
+use Rattle.placing.specs.Jumping.{reaches_at}
 
 -- all the reaches add up to what `sum` and the reaches that are left add up to
 pub record SumsOnward (all : List Steps) (sum : ℕ) (left : List Steps) : Type 0 where
@@ -21,28 +21,19 @@ module _ (ts : List Terms) (level sum i : ℕ) (so_far : SumsOnward (reaches_at 
 
     -- where all add up, the next run is limited
     next_limited : (t : ℕ) → AddTo (reaches_at ts level) t →
-        (r : ℕ) × (u : ℕ) × (reach_at (get_or ts i d) level ≡ Limited r) × AddTo (reaches_at (drop (i + 1) ts) level) u × (t ≡ sum + r + u)
+        (r : ℕ) × (u : ℕ) × (reach_at (get_or ts i d) level ≡ Some r) × AddTo (reaches_at (drop (i + 1) ts) level) u × (t ≡ sum + r + u)
     next_limited t h =
         let k = so_far.back t h in
         let f = add_first (reach_at (get_or ts i d) level) (reaches_at (drop (i + 1) ts) level) k.0 (subst (λ l. AddTo l k.0) split k.1) in
         (f.0, f.1, f.2, f.3, omega (arith, k.2, f.4))
 
-    -- one run more: it is limited, or not, or goes past what is left of the gap
-    pub sums_more : (r : ℕ) → Limited r ≡ reach_at (get_or ts i d) level → SumsOnward (reaches_at ts level) (sum + r) (reaches_at (drop (i + 1) ts) level)
+    -- one run more, which is limited
+    pub sums_more : (r : ℕ) → Some r ≡ reach_at (get_or ts i d) level → SumsOnward (reaches_at ts level) (sum + r) (reaches_at (drop (i + 1) ts) level)
     sums_more r e = record {
       onward = λ u h. subst (AddTo (reaches_at ts level)) (omega arith) (so_far.onward (r + u)
           (subst (λ l. AddTo l (r + u)) (sym split) (add_cons (reach_at (get_or ts i d) level) (reaches_at (drop (i + 1) ts) level) r u (r + u) (sym e) h refl)));
       back = λ t h. let n = next_limited t h in (n.1, n.3, omega (arith, n.4, limited_same r n.0 (e ∙ n.2)));
     }
-
-    pub sums_never : (gap : ℕ) → Unlimited ≡ reach_at (get_or ts i d) level → LongAt ts gap level
-    sums_never gap e t h k =
-        let n = next_limited t h in
-        let same : Unlimited ≡ Limited n.0 = e ∙ n.2 in
-        let z : ◌≡◌ {A = ℕ} 0 1 = cc in omega arith
-
-    pub sums_past : (gap r : ℕ) → Limited r ≡ reach_at (get_or ts i d) level → gap - sum ≤ r → LongAt ts gap level
-    sums_past gap r e past t h k = let n = next_limited t h in omega (arith, n.4, limited_same r n.0 (e ∙ n.2))
 
   -- no run is left
   pub sums_all : length ts ≤ i → AddTo (reaches_at ts level) sum

@@ -1,6 +1,6 @@
 -- A chain by the terms of its runs: at which levels it is short of a gap.
-use Rattle.std.specs.Prelude.{ℕ, ◌-◌, ◌<◌, ◌≤◌, List, map, Ok, Err, Result}
-use Rattle.chains.specs.declared.measure.Steps.{Steps}
+use Rattle.std.specs.Prelude.{ℕ, ◌-◌, ◌<◌, List, map, Ok, Err, Result}
+use Rattle.chains.specs.Measures.{Steps}
 use Rattle.network.specs.Chain.{AddTo}
 use Rattle.yard.specs.declared.force.Terms.{Terms}
 use Rattle.placing.specs.declared.chain.Jump.{Jump}
@@ -18,12 +18,11 @@ ShortAt ts gap level total = AddTo (reaches_at ts level) total × (total < gap)
 abbrev pub LongAt : List Terms → ℕ → ℕ → Type 0
 LongAt ts gap level = (total : ℕ) → AddTo (reaches_at ts level) total → total < gap → ⊥
 
--- A level above `low`, and not above the highest, at which the chain is not short, though one level below it is.
+-- A level above `low` at which the chain is not short, though one level below it is.
 pub record JumpsTo (ts : List Terms) (gap low : ℕ) (j : Jump) : Type 0 where
-  pub above : low < j.level
-  pub in_range : j.level ≤ 3000000000
-  pub short_below : ShortAt ts gap (j.level - 1) j.total
-  pub long : LongAt ts gap j.level
+  pub above : low < j.level.cents
+  pub short_below : ShortAt ts gap (j.level.cents - 1) j.total
+  pub long : LongAt ts gap j.level.cents
 
 -- such a level; else the chain is short at the highest level
 abbrev pub Jumped : List Terms → ℕ → ℕ → Result Jump ℕ → Type 0

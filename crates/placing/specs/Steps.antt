@@ -1,11 +1,11 @@
 -- What Place and Why answer, and what they leave in the caller's list.
 use Rattle.std.specs.Prelude.{◌≡◌, ℕ, ◌-◌, ◌*◌, ◌<◌, ◌≤◌, ◌⊎◌, List, [], ◌∷◌, ◌++◌, length, drop, ℤ, Ok, Err, Result, ◌≢◌}
 use Rattle.std.specs.List.{AllByRecursion}
-use Rattle.chains.specs.declared.measure.Steps.{Steps}
+use Rattle.chains.specs.Measures.{Steps}
 use Rattle.yard.specs.declared.force.InForce.{InForce}
 use Rattle.yard.specs.declared.force.Run.{Run}
 use Rattle.yard.specs.declared.fault.Refusal.{Refusal}
-use Rattle.yard.specs.declared.fault.Layer.TheVariants as layer
+use Rattle.yard.specs.declared.fault.Rule.TheVariants as rule
 use Rattle.yard.specs.Rows.{refusal_of}
 use Rattle.runs.specs.Spots.{SomeMast}
 use Rattle.runs.specs.Order.{runs_of, run_terms, FirstWith}
@@ -19,9 +19,9 @@ use Rattle.placing.specs.declared.answer.Reason.TheVariants.{Floor, Fixed, Chain
 -- The rows that Place and Why share, in their order: too few entries, no mast, a loose pillar. `need` entries are enough, and the list has `room`.
 abbrev pub Bars : InForce → ℕ → ℕ → Refusal → Type 0
 Bars F need room r =
-    ((room < need) × (r ≡ refusal_of layer.Memory 16 0))
-    ⊎ (((need ≤ room) × (SomeMast F → ⊥) × (r ≡ refusal_of layer.Placing 13 0))
-    ⊎ ((p : ℕ) × (need ≤ room) × SomeMast F × LowestLoose F p × (r ≡ refusal_of layer.Placing 14 p)))
+    ((room < need) × (r ≡ refusal_of rule.Room 0))
+    ⊎ (((need ≤ room) × (SomeMast F → ⊥) × (r ≡ refusal_of rule.NoMast 0))
+    ⊎ ((p : ℕ) × (need ≤ room) × SomeMast F × LowestLoose F p × (r ≡ refusal_of rule.Loose p)))
 
 -- The placing in the field at the least level in which each pillar's sum and difference are largest.
 pub record Placed (F : InForce) (L : ℕ) (P : Placing) : Type 0 where
@@ -44,7 +44,7 @@ PlaceStep F before (Ok L) after =
 PlaceStep F before (Err r) after =
     (after ≡ before)
     × (Bars F (2 * F.count) (length before) r
-    ⊎ (Ready F × (2 * F.count ≤ length before) × NoneKeeps F × (r ≡ refusal_of layer.Placing 15 0)))
+    ⊎ (Ready F × (2 * F.count ≤ length before) × NoneKeeps F × (r ≡ refusal_of rule.Unkept 0)))
 
 -- a chain, as it is told, is too short
 abbrev pub ToldShort : InForce → (Run → Steps) → ChainTold → List ℕ → Type 0

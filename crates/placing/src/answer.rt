@@ -3,7 +3,7 @@
 use yard::force::Run;
 
 // A chain between two masts, the lower number first: the length between them, what its runs reach in all, and how many pillars it has.
-// The pillars themselves stand at the head of the caller's list.
+// The pillars themselves stand at the head of the caller's list, since nothing here may allocate.
 #[derive(Clone, Copy)]
 pub struct ChainTold {
     pub from: u8,

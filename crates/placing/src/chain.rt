@@ -7,32 +7,28 @@ ghost use Rattle.runs.specs.Order.{run_terms};
 ghost use Rattle.runs.specs.Shortness.{chain_runs};
 ghost use Rattle.placing.specs.Jumping.{ShortAt, LongAt, Jumped};
 
-use chains::measure::Steps;
+use crate::level::{HIGHEST_LEVEL, Level};
+use arrayvec::ArrayVec;
 use runs::pricing::reach;
 use yard::force::{NEW_TERMS, Terms};
 use yard::plan::Plan;
 
-// The greatest price of a run of 200,000 steps.
-pub(crate) const HIGHEST_LEVEL: u32 = 3_000_000_000;
-
 // A level at which a chain is no longer short, and how far its runs go altogether one level below.
 #[derive(Clone, Copy)]
 pub(crate) struct Jump {
-    pub level: u32,
+    pub level: Level,
     pub total: u64,
 }
 
 // The terms from a mast to a pillar; new ones where the mast does not stand.
+// `Plan::terms` does not serve here: it tells none for such a mast, and what it says of mast 40 and above cannot be joined to a chain's masts.
 fn feeder_terms(plan: &Plan, mast: u8, pillar: u8) -> Terms
     requires { pillar < plan.now.force.count }
     ensures { result ≡ run_terms plan.now.force (feeder_run mast pillar) }
 {
-    let Some(found) = plan.masts().get(mast as usize) else {
-        return NEW_TERMS;
-    };
-    match found {
-        Some(standing) => standing.feeders[pillar as usize],
-        None => NEW_TERMS,
+    match plan.masts().get(mast as usize) {
+        Some(Some(standing)) => standing.feeders[pillar as usize],
+        _ => NEW_TERMS,
     }
 }
 
@@ -44,22 +40,21 @@ fn link_terms(plan: &Plan, p: u8, q: u8) -> Terms
     plan.links()[p.min(q) as usize][p.max(q) as usize]
 }
 
-// The terms of a chain's runs in their order, at the head of the array: one more than the chain has pillars.
-pub(crate) fn chain_terms(plan: &Plan, from: u8, pillars: &[u8], to: u8) -> [Terms; 13]
+// The terms of a chain's runs in their order: one more than the chain has pillars.
+pub(crate) fn chain_terms(plan: &Plan, from: u8, pillars: &[u8], to: u8) -> ArrayVec<Terms, 13>
     requires some { 0 < length pillars.now }
     requires few { length pillars.now ≤ 12 }
     requires within { AllByRecursion (λ p. p < plan.now.force.count) pillars.now }
-    ensures { take (length pillars.now + 1) result ≡ map (run_terms plan.now.force) (chain_runs from pillars.now to) }
+    ensures { result.items ≡ map (run_terms plan.now.force) (chain_runs from pillars.now to) }
 {
-    let mut terms = [NEW_TERMS; 13];
+    let mut terms = ArrayVec::new();
     let mut at = pillars[0];
-    terms[0] = feeder_terms(plan, from, at);
-    for i in 1..pillars.len() {
-        let next = pillars[i];
-        terms[i] = link_terms(plan, at, next);
-        at = next;
+    terms.push(feeder_terms(plan, from, at));
+    for next in &pillars[1..] {
+        terms.push(link_terms(plan, at, *next));
+        at = *next;
     }
-    terms[pillars.len()] = feeder_terms(plan, to, at);
+    terms.push(feeder_terms(plan, to, at));
     terms
 }
 
@@ -69,9 +64,7 @@ fn short_at(terms: &[Terms], gap: u64, level: u32) -> Option<u64>
 {
     let mut total = 0;
     for run in terms {
-        let Steps::Limited(steps) = reach(*run, level) else {
-            return None;
-        };
+        let steps = reach(*run, level)?;
         if steps >= gap - total {
             return None;
         }
@@ -82,19 +75,19 @@ fn short_at(terms: &[Terms], gap: u64, level: u32) -> Option<u64>
 
 // Where a chain that is short at `low` is no longer short: a level above `low` at which it is not, though one level below it is.
 // Else the chain is short at the highest level, and its runs go so far there.
-pub(crate) fn paying_level(terms: &[Terms], gap: u64, low: u32) -> Result<Jump, u64>
-    requires bounded { low ≤ 3000000000 }
-    requires short { (total : ℕ) × ShortAt terms.now gap low total }
-    ensures { Jumped terms.now gap low result }
+pub(crate) fn paying_level(terms: &[Terms], gap: u64, low: Level) -> Result<Jump, u64>
+    requires { (total : ℕ) × ShortAt terms.now gap low.cents total }
+    ensures { Jumped terms.now gap low.cents result }
 {
     if let Some(total) = short_at(terms, gap, HIGHEST_LEVEL) {
         return Err(total);
     }
-    let Some(mut total) = short_at(terms, gap, low) else {
+    let Some(mut total) = short_at(terms, gap, low.cents) else {
         unreachable()
     };
-    let mut short = low;
+    let mut short = low.cents;
     let mut high = HIGHEST_LEVEL;
+    // the levels are no slice, so no search of the library goes over them
     while short + 1 < high {
         let middle = short + (high - short) / 2;
         match short_at(terms, gap, middle) {
@@ -105,5 +98,6 @@ pub(crate) fn paying_level(terms: &[Terms], gap: u64, low: u32) -> Result<Jump, 
             None => high = middle,
         }
     }
-    Ok(Jump { level: high, total })
+    let level = Level { cents: high };
+    Ok(Jump { level, total })
 }

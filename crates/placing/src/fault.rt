@@ -4,9 +4,9 @@ ghost use Rattle.std.specs.Prelude.{◌≡◌};
 ghost use Rattle.placing.specs.Refusals.{barred_refusal, place_refusal};
 ghost use Rattle.placing.specs.declared.fault.PlaceFault.TheVariants.{Barred as barring};
 
-use yard::fault::{Layer, Refusal};
+use yard::fault::{Refusal, Rule};
 
-#[derive(Clone, Copy)]
+#[derive(Clone, Copy, PartialEq, Eq, Debug)]
 pub enum Barred {
     // the list has too few entries
     Room,
@@ -16,13 +16,14 @@ pub enum Barred {
     Loose(u8),
 }
 
-#[derive(Clone, Copy)]
+#[derive(Clone, Copy, PartialEq, Eq, Debug)]
 pub enum PlaceFault {
     Barred(Barred),
     // no placing keeps all limits
     Unkept,
 }
 
+// By hand: a derived `From` has no contract.
 impl From<Barred> for PlaceFault {
     ghost from_gives = { λ f g. g ≡ barring f };
 
@@ -31,27 +32,25 @@ impl From<Barred> for PlaceFault {
     }
 }
 
-impl Barred {
-    // The refusal as it is told.
-    pub fn refusal(self) -> Refusal
-        ensures { result ≡ barred_refusal self }
-    {
-        match self {
-            Barred::Room => Layer::Memory.refusal(16, 0),
-            Barred::NoMast => Layer::Placing.refusal(13, 0),
-            Barred::Loose(pillar) => Layer::Placing.refusal(14, pillar),
+impl From<Barred> for Refusal {
+    ghost from_gives = { λ f r. r ≡ barred_refusal f };
+
+    fn from(fault: Barred) -> Refusal {
+        match fault {
+            Barred::Room => Rule::Room.at(0),
+            Barred::NoMast => Rule::NoMast.at(0),
+            Barred::Loose(pillar) => Rule::Loose.at(pillar),
         }
     }
 }
 
-impl PlaceFault {
-    // The refusal as it is told.
-    pub fn refusal(self) -> Refusal
-        ensures { result ≡ place_refusal self }
-    {
-        match self {
-            PlaceFault::Barred(fault) => fault.refusal(),
-            PlaceFault::Unkept => Layer::Placing.refusal(15, 0),
+impl From<PlaceFault> for Refusal {
+    ghost from_gives = { λ f r. r ≡ place_refusal f };
+
+    fn from(fault: PlaceFault) -> Refusal {
+        match fault {
+            PlaceFault::Barred(fault) => fault.into(),
+            PlaceFault::Unkept => Rule::Unkept.at(0),
         }
     }
 }

@@ -3,42 +3,36 @@
 ghost use Rattle.std.specs.Prelude.{◌≤◌};
 ghost use Rattle.std.specs.List.{AllByRecursion};
 ghost use Rattle.runs.specs.Order.{runs_of, run_terms};
-ghost use Rattle.placing.specs.Networked.{Pointed, FitsAt};
+ghost use Rattle.placing.specs.Networked.{FitsAt};
 
-use crate::tables::feeder_rows;
-use chains::measure::Steps;
+use crate::ground::Ground;
+use crate::tables::fill_feeders;
 use network::answer::{Positions, ShortChain, Unfit};
 use network::fitting::fit;
 use network::shape::Network;
 use runs::worth::link_rows;
-use yard::plan::Plan;
 
-// Where the pillars go with no run above the level, or a chain that is too short there.
-pub(crate) fn fit_at(
-    plan: &Plan,
-    points: &[(i32, i32)],
-    level: u32,
-) -> Result<Positions, ShortChain>
-    requires points { Pointed plan.now.force points.now }
-    requires level { AllByRecursion (λ r. (run_terms plan.now.force r).fixed ≤ level) (runs_of plan.now.force) }
-    ensures { FitsAt plan.now.force level result }
-{
-    let mut feeders = [[Steps::Unlimited; 12]; 40];
-    let feeders = &mut feeders[..];
-    let feeders = &mut feeders[0..points.len()];
-    feeder_rows(plan, level, feeders);
-    let links = link_rows::<Steps>(plan, level);
-    let links = &links[0..plan.pillars() as usize];
-    let network = Network {
-        points,
-        feeders,
-        links,
-    };
-    match fit(&network) {
-        Ok(positions) => Ok(positions),
-        Err(unfit) => match unfit {
-            Unfit::TooShort(chain) => Err(chain),
-            Unfit::NoNetwork => unreachable(),
-        },
+impl Ground<'_> {
+    // Where the pillars go with no run above the level, or a chain that is too short there.
+    pub(crate) fn fit_at(&self, level: u32) -> Result<Positions, ShortChain>
+        requires { AllByRecursion (λ r. (run_terms self.now.plan.now.force r).fixed ≤ level) (runs_of self.now.plan.now.force) }
+        ensures { FitsAt self.now.plan.now.force level result }
+    {
+        let points = self.points.as_slice();
+        let mut feeders = [[None; 12]; 40];
+        let feeders = &mut feeders[0..points.len()];
+        fill_feeders(self.plan, level, feeders);
+        let links = link_rows(self.plan, level);
+        let network = Network {
+            points,
+            feeders,
+            links: &links[0..self.plan.pillars() as usize],
+        };
+        // not by `map_err`, whose closure could not be shown to meet no `NoNetwork`
+        match fit(&network) {
+            Ok(positions) => Ok(positions),
+            Err(Unfit::TooShort(chain)) => Err(chain),
+            Err(Unfit::NoNetwork) => unreachable(),
+        }
     }
 }

@@ -4,8 +4,9 @@
 pub mod answer;
 mod chain;
 pub mod fault;
-mod feet;
 mod fits;
+mod ground;
+mod level;
 pub mod place;
 pub mod pricing;
 mod ready;

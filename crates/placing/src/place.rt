@@ -7,10 +7,8 @@ ghost use Rattle.placing.specs.Steps.{PlaceStep};
 
 use crate::fault::PlaceFault;
 use crate::ready::ready;
-use crate::settle::Settled;
 use crate::sites::{sites_of, write_halves};
-use crate::solve::find_level;
-use runs::dearest::{Stand, dearest};
+use runs::dearest::dearest;
 use yard::plan::Plan;
 
 // The least level of all placings that keep every limit. The halves of the sites stand at the head of the list, pillar by pillar; later entries stay.
@@ -20,13 +18,12 @@ pub fn place(plan: &Plan, list: &mut [i32]) -> Result<u32, PlaceFault>
     ensures once { (other : ResultOf ℕ RefusalTold) (after : List ℤ) → PlaceStep plan.now.force list.old other after → (place_told result ≡ other) × (list.new ≡ after) }
 {
     let count = plan.pillars() as usize;
-    let feet = ready(plan, 2 * count, list.len())?;
-    let settled = find_level(plan, feet).settled;
-    let Settled::Level { positions, .. } = settled else {
+    let ground = ready(plan, 2 * count, list.len())?;
+    let Ok(solved) = ground.find_level() else {
         return Err(PlaceFault::Unkept);
     };
-    let sites = sites_of(&positions, count);
-    let Some(top) = dearest(plan, &Stand::At(sites)) else {
+    let sites = sites_of(&solved.settled.positions);
+    let Some(top) = dearest(plan, Some(&sites)) else {
         unreachable()
     };
     write_halves(&sites[0..count], list);

@@ -1,28 +1,25 @@
 // What Place and Why ask of a plan before they look for a level.
 
-ghost use Rattle.std.specs.Prelude.{◌≤◌, MatchResult};
+ghost use Rattle.std.specs.Prelude.{◌≡◌, ◌≤◌, MatchResult};
 ghost use Rattle.runs.specs.Tying.{Ready as ReadyPlan};
-ghost use Rattle.placing.specs.Networked.{FeetOf};
 ghost use Rattle.placing.specs.Refusals.{barred_refusal};
 ghost use Rattle.placing.specs.Steps.{Bars};
 
 use crate::fault::Barred;
-use crate::feet::{Feet, find_feet};
+use crate::ground::Ground;
 use runs::loose::lowest_loose;
 use yard::plan::Plan;
 
-// Where the masts stand, with `need` entries in a list of `room`, a mast standing and no pillar loose; else the first of these that fails.
-pub(crate) fn ready(plan: &Plan, need: usize, room: usize) -> Result<Feet, Barred>
-    ensures { MatchResult result (λ f. ReadyPlan plan.now.force × (need ≤ room) × FeetOf plan.now.force f) (λ b. Bars plan.now.force need room (barred_refusal b)) }
+// The ground of the plan, with `need` entries in a list of `room`, a mast standing and no pillar loose; else the first of these that fails.
+pub(crate) fn ready(plan: &Plan, need: usize, room: usize) -> Result<Ground<'_>, Barred>
+    ensures { MatchResult result (λ g. (g.plan.now ≡ plan.now) × ReadyPlan plan.now.force × (need ≤ room)) (λ b. Bars plan.now.force need room (barred_refusal b)) }
 {
     if room < need {
         return Err(Barred::Room);
     }
-    let Some(feet) = find_feet(plan) else {
-        return Err(Barred::NoMast);
-    };
+    let ground = Ground::of(plan).ok_or(Barred::NoMast)?;
     match lowest_loose(plan) {
         Some(pillar) => Err(Barred::Loose(pillar)),
-        None => Ok(feet),
+        None => Ok(ground),
     }
 }

@@ -4,98 +4,73 @@ ghost use Rattle.std.specs.Prelude.{◌≤◌};
 ghost use Rattle.std.specs.List.{AllByRecursion};
 ghost use Rattle.runs.specs.Order.{runs_of, run_terms};
 ghost use Rattle.runs.specs.Shortness.{reach_of};
-ghost use Rattle.placing.specs.Networked.{Pointed};
 ghost use Rattle.placing.specs.Settling.{ChainShort, RaisesTo, SettledFrom};
 
 use crate::chain::{chain_terms, paying_level};
-use crate::fits::fit_at;
+use crate::ground::Ground;
+use crate::level::Level;
 use network::answer::{Positions, ShortChain};
 use yard::plan::Plan;
 
 // A level, and a chain that is too short one cent below it.
-#[derive(Clone, Copy)]
+#[derive(Drop)]
 pub(crate) struct Raised {
-    pub level: u32,
+    pub level: Level,
     pub chain: ShortChain,
 }
 
-#[derive(Clone, Copy)]
-pub(crate) enum Settled {
-    // the level, where the pillars go, and the chain that forced the last jump to it
-    Level {
-        level: u32,
-        positions: Positions,
-        below: Option<ShortChain>,
-    },
-    // a chain whose limits are too short
-    Clash(ShortChain),
+// A level, where the pillars go at it, and the chain that forced the last jump to it.
+#[derive(Drop)]
+pub(crate) struct Settled {
+    pub level: Level,
+    pub positions: Positions,
+    pub below: Option<ShortChain>,
 }
 
 // The least level at which a chain that is too short is so no longer; or the chain with its limits, where no level helps.
-fn raise_over(plan: &Plan, chain: ShortChain, level: u32) -> Result<Raised, ShortChain>
-    requires short { ChainShort plan.now.force (reach_of plan.now.force level) chain }
-    requires bounded { level ≤ 3000000000 }
-    ensures { RaisesTo plan.now.force level result }
+fn raise_over(plan: &Plan, mut short: ShortChain, level: Level) -> Result<Raised, ShortChain>
+    requires { ChainShort plan.now.force (reach_of plan.now.force level.cents) short }
+    ensures { RaisesTo plan.now.force level.cents result }
 {
-    let ShortChain {
-        from,
-        to,
-        gap,
-        total: _,
-        count,
-        pillars,
-    } = chain;
-    let terms = chain_terms(plan, from, &pillars[0..count], to);
-    match paying_level(&terms[0..count + 1], gap, level) {
+    let chain = &short.chain;
+    let terms = chain_terms(plan, chain.from, chain.pillars.as_slice(), chain.to);
+    match paying_level(terms.as_slice(), short.gap, level) {
         Ok(jump) => {
-            let total = jump.total;
-            let chain = ShortChain {
-                from,
-                to,
-                gap,
-                total,
-                count,
-                pillars,
-            };
+            short.chain.total = jump.total;
             Ok(Raised {
                 level: jump.level,
-                chain,
+                chain: short,
             })
         }
-        Err(total) => Err(ShortChain {
-            from,
-            to,
-            gap,
-            total,
-            count,
-            pillars,
-        }),
+        Err(total) => {
+            short.chain.total = total;
+            Err(short)
+        }
     }
 }
 
-// The least level from `start` on, which pays every fixed price: each jump goes to a level below which a chain is too short.
-pub(crate) fn settle(plan: &Plan, points: &[(i32, i32)], start: u32) -> Settled
-    requires points { Pointed plan.now.force points.now }
-    requires paid { AllByRecursion (λ r. (run_terms plan.now.force r).fixed ≤ start) (runs_of plan.now.force) }
-    requires bounded { start ≤ 3000000000 }
-    ensures { SettledFrom plan.now.force start result }
-{
-    let mut level = start;
-    let mut below = None;
-    'jumps: loop {
-        match fit_at(plan, points, level) {
-            Ok(positions) => return Settled::Level {
-                level,
-                positions,
-                below,
-            },
-            Err(chain) => match raise_over(plan, chain, level) {
-                Ok(raised) => {
+impl Ground<'_> {
+    // The least level from `start` on, which pays every fixed price: each jump goes to a level below which a chain is too short.
+    // Or a chain whose limits are too short.
+    pub(crate) fn settle(&self, start: Level) -> Result<Settled, ShortChain>
+        requires { AllByRecursion (λ r. (run_terms self.now.plan.now.force r).fixed ≤ start.cents) (runs_of self.now.plan.now.force) }
+        ensures { SettledFrom self.now.plan.now.force start.cents result }
+    {
+        let mut level = start;
+        let mut below = None;
+        'jumps: loop {
+            match self.fit_at(level.cents) {
+                Ok(positions) => return Ok(Settled {
+                    level,
+                    positions,
+                    below,
+                }),
+                Err(chain) => {
+                    let raised = raise_over(self.plan, chain, level)?;
                     level = raised.level;
                     below = Some(raised.chain);
                 }
-                Err(clash) => return Settled::Clash(clash),
-            },
+            }
         }
     }
 }

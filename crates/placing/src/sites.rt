@@ -11,26 +11,25 @@ ghost use Rattle.placing.specs.Steps.{halves_of};
 use network::answer::Positions;
 use yard::site::Site;
 
-// The sites with the readings of the first n pillars.
-pub(crate) fn sites_of(positions: &Positions, n: usize) -> [Site; 12]
-    requires { (n ≤ 12) × (((j : ℕ) → j < n → Near (position_in positions.now j))) }
-    ensures { (j : ℕ) → j < n → IsReading (site_at (spots_of result) j).hx (site_at (spots_of result) j).hy (position_in positions.now j) }
+// The site with a reading, or the origin where the reading is too far.
+fn site_of(reading: (i32, i32), origin: Site) -> Site
+    ensures { Near reading → IsReading result.hx result.hy reading }
+{
+    let (sum, difference) = reading;
+    Site::with_reading(sum, difference).unwrap_or(origin)
+}
+
+// The sites with the readings of the pillars.
+pub(crate) fn sites_of(positions: &Positions) -> [Site; 12]
+    ensures { (j : ℕ) → j < 12 → Near (position_in positions.now j) → IsReading (site_at (spots_of result) j).hx (site_at (spots_of result) j).hy (position_in positions.now j) }
 {
     let Some(origin) = Site::at(0, 0) else {
         unreachable()
     };
-    let mut sites = [origin; 12];
-    for p in 0..n {
-        let (sum, difference) = positions.readings[p];
-        let Some(site) = Site::with_reading(sum, difference) else {
-            unreachable()
-        };
-        sites[p] = site;
-    }
-    sites
+    positions.readings.map(|reading| site_of(reading, origin))
 }
 
-// The halves of each site at the head of the list.
+// The halves of each site at the head of the list, written by their places: of what is written through `chunks_exact_mut` a proof learns nothing.
 pub(crate) fn write_halves(sites: &[Site], list: &mut [i32])
     requires { 2 * length sites.now ≤ length list.old }
     ensures { list.new ≡ halves_of (spots_of sites.now) ++ drop (2 * length sites.now) list.old }

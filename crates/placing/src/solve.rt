@@ -1,37 +1,36 @@
-// The level of a plan that is ready, and what it rests on.
+// The level of a plan, and what it rests on.
 
-ghost use Rattle.placing.specs.Networked.{FeetOf};
 ghost use Rattle.placing.specs.Settling.{SolvedBy};
 
-use crate::feet::{Feet, readings};
-use crate::settle::{Settled, settle};
-use runs::dearest::{Stand, dearest};
+use crate::ground::Ground;
+use crate::level::Level;
+use crate::settle::Settled;
+use network::answer::ShortChain;
+use runs::dearest::dearest;
 use yard::force::Run;
-use yard::plan::Plan;
 
 // The first run with the greatest fixed price, and the level settled from that price on.
-#[derive(Clone, Copy)]
+#[derive(Drop)]
 pub(crate) struct Solved {
     pub fixed: Run,
     pub settled: Settled,
 }
 
-// Looks for the level of a plan whose masts stand so.
-pub(crate) fn find_level(plan: &Plan, feet: Feet) -> Solved
-    requires { FeetOf plan.now.force feet }
-    ensures { SolvedBy plan.now.force result }
-{
-    let Feet { first, span } = feet;
-    let mut points = [(0, 0); 40];
-    let points = &mut points[..];
-    let points = &mut points[0..span];
-    readings(plan, first, points);
-    let Some(top) = dearest(plan, &Stand::Nowhere) else {
-        unreachable()
-    };
-    let settled = settle(plan, points, top.cents as u32);
-    Solved {
-        fixed: top.run,
-        settled,
+impl Ground<'_> {
+    // Looks for the level of the plan: an error where no placing keeps all limits, with a chain whose limits are too short.
+    pub(crate) fn find_level(&self) -> Result<Solved, ShortChain>
+        ensures { SolvedBy self.now.plan.now.force result }
+    {
+        let Some(top) = dearest(self.plan, None) else {
+            unreachable()
+        };
+        let start = Level {
+            cents: top.cents as u32,
+        };
+        let settled = self.settle(start)?;
+        Ok(Solved {
+            fixed: top.run,
+            settled,
+        })
     }
 }

@@ -10,26 +10,24 @@ ghost use Rattle.placing.specs.Determined.{SameWhy};
 use crate::answer::{ChainTold, Reason};
 use crate::fault::Barred;
 use crate::ready::ready;
-use crate::settle::Settled;
-use crate::solve::{Solved, find_level};
 use network::answer::ShortChain;
 use yard::plan::Plan;
 
 // The chain as it is told, with its pillars at the head of the list.
-fn tell(chain: &ShortChain, list: &mut [u8]) -> ChainTold
-    requires few { (chain.now.count ≤ 12) × (chain.now.count ≤ length list.old) }
-    requires near { (chain.now.gap ≤ 200000) × (chain.now.total < chain.now.gap) }
-    ensures chain { result ≡ told_of chain.now }
-    ensures list { list.new ≡ take chain.now.count chain.now.pillars ++ drop chain.now.count list.old }
+fn tell(short: &ShortChain, list: &mut [u8]) -> ChainTold
+    requires few { length short.now.chain.pillars.items ≤ length list.old }
+    requires near { (short.now.gap ≤ 200000) × (short.now.chain.total < short.now.gap) }
+    ensures chain { result ≡ told_of short.now }
+    ensures list { list.new ≡ short.now.chain.pillars.items ++ drop (length short.now.chain.pillars.items) list.old }
 {
-    let count = chain.count;
-    list[0..count].copy_from_slice(&chain.pillars[0..count]);
+    let pillars = short.chain.pillars.as_slice();
+    list[0..pillars.len()].copy_from_slice(pillars);
     ChainTold {
-        from: chain.from,
-        to: chain.to,
-        gap: chain.gap as u32,
-        total: chain.total as u32,
-        count: count as u8,
+        from: short.chain.from,
+        to: short.chain.to,
+        gap: short.gap as u32,
+        total: short.chain.total as u32,
+        count: pillars.len() as u8,
     }
 }
 
@@ -39,22 +37,13 @@ pub fn why(plan: &Plan, list: &mut [u8]) -> Result<Reason, Barred>
     ensures step { WhyStep plan.now.force list.old (why_told result) list.new }
     ensures once { (other : ResultOf Reason RefusalTold) (after : List ℕ) → WhyStep plan.now.force list.old other after → SameWhy (why_told result) other list.new after }
 {
-    let feet = ready(plan, plan.pillars() as usize, list.len())?;
-    let Solved { fixed, settled } = find_level(plan, feet);
-    match settled {
-        Settled::Clash(chain) => Ok(Reason::Clash(tell(&chain, list))),
-        Settled::Level {
-            level,
-            positions: _,
-            below,
-        } => {
-            if level == 0 {
-                return Ok(Reason::Floor);
-            }
-            match below {
-                None => Ok(Reason::Fixed(fixed)),
-                Some(chain) => Ok(Reason::Chain(tell(&chain, list))),
-            }
-        }
+    let ground = ready(plan, plan.pillars() as usize, list.len())?;
+    match ground.find_level() {
+        Err(clash) => Ok(Reason::Clash(tell(&clash, list))),
+        Ok(solved) if solved.settled.level.cents == 0 => Ok(Reason::Floor),
+        Ok(solved) => match &solved.settled.below {
+            None => Ok(Reason::Fixed(solved.fixed)),
+            Some(chain) => Ok(Reason::Chain(tell(chain, list))),
+        },
     }
 }

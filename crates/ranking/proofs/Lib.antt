@@ -1,3 +1,3 @@
-pub mod Insertion
 pub mod Ordered
+pub mod Placed
 pub mod Keeping

@@ -1,19 +1,19 @@
 -- A plan and a network that stands for it: lengths, fields and chains of the one are those of the other.
-use Rattle.std.proofs.Common.{◌≡◌, ℕ, ◌<◌, List, [], ◌∷◌, map, length, ℤ, pos, ◌+ℤ◌, ◌-ℤ◌, nat_abs, ◌≤ℤ◌, Some, None, Option, sym, refl, ap, ◌∙◌, subst, ⊎_elim, arith}
+use Rattle.std.specs.Prelude.{Some, None}
+use Rattle.std.proofs.Common.{◌≡◌, ℕ, ◌%◌, ◌<◌, List, [], ◌∷◌, map, length, ℤ, pos, ◌+ℤ◌, ◌-ℤ◌, nat_abs, ◌≤ℤ◌, Some, None, Option, sym, refl, ap, ◌∙◌, subst, ⊎_elim, arith}
 use lib.Signed.{quot_z}
 use Rattle.std.specs.List.{AllByRecursion}
 use Rattle.std.proofs.ByRecursion.{All-get_or, All-from_get_or}
 use Rattle.std.proofs.lemmas.Int.{ints}
 use Rattle.std.proofs.lemmas.Bool.{cases_order}
-use Rattle.chains.specs.declared.measure.Steps.{Steps}
-use Rattle.chains.specs.declared.measure.Steps.TheVariants.{Limited, Unlimited}
+use Rattle.chains.specs.Measures.{Steps}
 use Rattle.chains.specs.Chains.{Different}
 use Rattle.network.specs.Layout.{Layout, apart, Within, Meets, Between, InField}
 use Rattle.network.specs.Chain.{reaches_onward, reaches_along, AddTo, Short}
 use Rattle.network.proofs.Sums.{add_first}
 use Rattle.network.proofs.Triangle.{apart_turned}
 use Rattle.yard.specs.Grid.{IsReading}
-use Rattle.yard.proofs.Readings.{half_sum, half_gap, larger_gap}
+use Rattle.yard.proofs.Readings.{larger_gap}
 use Rattle.yard.specs.declared.force.InForce.{InForce}
 use Rattle.yard.specs.declared.force.Run.{Run}
 use Rattle.yard.specs.declared.force.Run.TheVariants.{Feeder, Link}
@@ -28,6 +28,13 @@ use Rattle.runs.proofs.Listed.{the_feeder, the_link, all_runs}
 abbrev pub readings : Placing → ℕ → ℤ × ℤ
 readings P j = (quot_z ((site_at P j).hx +ℤ (site_at P j).hy) (pos 2), quot_z ((site_at P j).hx -ℤ (site_at P j).hy) (pos 2))
 
+-- the halves of a site have an even sum and an even difference
+half_sum : (z w : ℤ) → nat_abs z % 2 ≡ nat_abs w % 2 → quot_z (z +ℤ w) (pos 2) +ℤ quot_z (z +ℤ w) (pos 2) ≡ z +ℤ w
+half_sum z w e = omega (arith, ints)
+
+half_gap : (z w : ℤ) → nat_abs z % 2 ≡ nat_abs w % 2 → quot_z (z -ℤ w) (pos 2) +ℤ quot_z (z -ℤ w) (pos 2) ≡ z -ℤ w
+half_gap z w e = omega (arith, ints)
+
 pub readings_read : (F : InForce) (R : Placing) → Rival F R → ReadAs F R (readings R)
 readings_read F R s j u =
     let h : OnTrenches (site_at R j) = All-get_or OnTrenches R j origin (omega (arith, s.0)) s.1 in
@@ -41,8 +48,8 @@ apart_self p = omega (arith, gap_self p.0, gap_self p.1)
     gap_self x = omega (arith, ints)
 
 within_none : (s : Steps) → Within 0 s
-within_none (Limited r) = omega arith
-within_none Unlimited = tt
+within_none (Some r) = omega arith
+within_none None = tt
 
 within_moved : (d e : ℕ) (s t : Steps) → d ≡ e → s ≡ t → Within e t → Within d s
 within_moved d e s t p q w = rw (p, q) w
@@ -64,7 +71,7 @@ module _ (F : InForce) (of : Run → Steps) (N : Layout) (M : Models F of N) (P 
     where
       from_point : (i j : ℕ) → i < N.points → j < F.count → (o : Option Spot) → mast_spot F i ≡ o → Within (apart (N.point i) (at j)) (N.feeder i j)
       from_point i j k u (Some s) e = within_moved _ _ _ _ (feeder_length_lem i j s e u) (M.feeder i j s e u) (the_feeder _ F i j s h e u)
-      from_point i j k u None e = within_moved _ _ _ Unlimited refl (M.absent i j k e u) tt
+      from_point i j k u None e = within_moved _ _ _ None refl (M.absent i j k e u) tt
 
       up : (j k : ℕ) → j < F.count → k < F.count → j < k → Within (apart (at j) (at k)) (N.link j k)
       up j k u v l = within_moved _ _ _ _ (link_length_lem j k u v) (M.link j k u v) (the_link _ F j k h l v)
@@ -143,14 +150,14 @@ module _ (F : InForce) (of : Run → Steps) (N : Layout) (M : Models F of N) (a 
 
 -- some feeder at the end of a chain whose reaches add up is limited
 last_limited : (feeder link : ℕ → ℕ → Steps) (n b p : ℕ) (ps : List ℕ) (t : ℕ) → AllByRecursion (λ q. q < n) (p ∷ ps) → AddTo (reaches_onward feeder link p ps b) t →
-    (q : ℕ) × (r : ℕ) × (q < n) × (feeder b q ≡ Limited r)
+    (q : ℕ) × (r : ℕ) × (q < n) × (feeder b q ≡ Some r)
 last_limited feeder link n b p [] t h sum = let f = add_first _ [] t sum in (p, f.0, h.0, f.2)
 last_limited feeder link n b p (q ∷ ps) t h sum =
     let f = add_first _ (reaches_onward feeder link q ps b) t sum in last_limited feeder link n b q ps f.1 h.1 f.3
 
 module _ (F : InForce) (of : Run → Steps) (N : Layout) (M : Models F of N) where
   -- where a feeder is limited, a mast stands
-  stands_there : (i p r : ℕ) → i < N.points → p < F.count → N.feeder i p ≡ Limited r → (s : Spot) × StandsAt F i s
+  stands_there : (i p r : ℕ) → i < N.points → p < F.count → N.feeder i p ≡ Some r → (s : Spot) × StandsAt F i s
   stands_there i p r u v e = go (mast_spot F i) refl
     where
       go : (o : Option Spot) → mast_spot F i ≡ o → (s : Spot) × StandsAt F i s

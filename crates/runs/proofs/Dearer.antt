@@ -10,7 +10,7 @@ use Rattle.yard.specs.declared.force.Run.{Run}
 use Rattle.yard.specs.declared.force.Run.TheVariants.{Feeder, Link}
 use Rattle.runs.specs.declared.dearest.Priced.{Priced}
 use Rattle.runs.specs.Order.{numbers_from, feeders_of, links_of}
-use Rattle.runs.specs.declared.dearest.Stand.{Stand}
+use Rattle.yard.specs.declared.site.Site.{Site}
 use Rattle.runs.specs.Pricing.{price_at}
 use Rattle.runs.specs.Dearest.{length_at, price_by, dearer_of, dearest_from}
 
@@ -24,17 +24,14 @@ numbers_none i n h =
     let e : n - i ≡ 0 = omega arith in rw e
 
 module _ (of : Run → ℕ) (best : Option Priced) (all : Option Priced) (n : ℕ) where
-  -- one feeder more, and none
+  -- one feeder more
   pub feeder_more : (m p x : ℕ) (next : Option Priced) → p < n → dearest_from of best (feeders_of m (numbers_from p (n - p))) ≡ all →
       next ≡ dearer_of best (Feeder m p) x → x ≡ of (Feeder m p) → dearest_from of next (feeders_of m (numbers_from (p + 1) (n - (p + 1)))) ≡ all
   feeder_more m p x next h inv e f =
       ap (λ b. dearest_from of b (feeders_of m (numbers_from (p + 1) (n - (p + 1))))) (e ∙ ap (dearer_of best (Feeder m p)) f)
       ∙ sym (ap (λ ps. dearest_from of best (feeders_of m ps)) (numbers_more p n h)) ∙ inv
 
-  pub feeder_none : (m p : ℕ) → n ≤ p → dearest_from of best (feeders_of m (numbers_from p (n - p))) ≡ all → best ≡ all
-  feeder_none m p h inv = sym (ap (λ ps. dearest_from of best (feeders_of m ps)) (numbers_none p n h)) ∙ inv
-
-  -- one link more, if it goes to a higher pillar, and none
+  -- one link more, if it goes to a higher pillar
   pub link_more : (p q x : ℕ) (next : Option Priced) → q < n → p < q → dearest_from of best (links_of p (numbers_from (max q (p + 1)) (n - max q (p + 1)))) ≡ all →
       next ≡ dearer_of best (Link p q) x → x ≡ of (Link p q) → dearest_from of next (links_of p (numbers_from (max (q + 1) (p + 1)) (n - max (q + 1) (p + 1)))) ≡ all
   link_more p q x next h above inv e f =
@@ -50,9 +47,6 @@ module _ (of : Run → ℕ) (best : Option Priced) (all : Option Priced) (n : �
       let same : max (q + 1) (p + 1) ≡ max q (p + 1) = omega arith in
       rw (same, e) inv
 
-  pub link_none : (p q : ℕ) → n ≤ q → dearest_from of best (links_of p (numbers_from (max q (p + 1)) (n - max q (p + 1)))) ≡ all → best ≡ all
-  link_none p q h inv = sym (ap (λ qs. dearest_from of best (links_of p qs)) (numbers_none (max q (p + 1)) n (omega arith))) ∙ inv
-
 -- an element of a slice's front part
 pub front_at : {X : Type 0} (xs : List X) (n p : ℕ) (d e : X) → p < n → n ≤ length xs → get_or (take (n - 0) xs) p d ≡ get_or xs p e
 front_at xs n p d e h k =
@@ -64,12 +58,12 @@ pub front_row : {X : Type 0} (rows : List (List X)) (n p q : ℕ) (d : X) → p 
 front_row rows n p q d h k = ap (λ row. get_or row q d) (front_at rows n p [] [] h k)
 
 -- the prices of a feeder and of a link, by the terms as they are stored
-pub feeder_priced : (F : InForce) (w : Stand) (m p x y : ℕ) (a : Mast) (t : Terms) → mast_at F m ≡ Some a → t ≡ get_or a.feeders p new_terms →
+pub feeder_priced : (F : InForce) (w : Option (List Site)) (m p x y : ℕ) (a : Mast) (t : Terms) → mast_at F m ≡ Some a → t ≡ get_or a.feeders p new_terms →
     x ≡ price_at t y → y ≡ length_at F w (Feeder m p) → x ≡ price_by F w (Feeder m p)
 feeder_priced F w m p x y a t stands e f g = rw stands (f ∙ ap (λ s. price_at s y) e ∙ ap (price_at (get_or a.feeders p new_terms)) g)
 
 -- the price of a link by the row of its lower pillar
-pub link_priced : (F : InForce) (w : Stand) (p q x y : ℕ) (row : List Terms) (t : Terms) → p < q → get_or F.links p [] ≡ row → t ≡ get_or row q new_terms →
+pub link_priced : (F : InForce) (w : Option (List Site)) (p q x y : ℕ) (row : List Terms) (t : Terms) → p < q → get_or F.links p [] ≡ row → t ≡ get_or row q new_terms →
     x ≡ price_at t y → y ≡ length_at F w (Link p q) → x ≡ price_by F w (Link p q)
 link_priced F w p q x y row t h is e f g =
     let low : min p q ≡ p = omega arith in

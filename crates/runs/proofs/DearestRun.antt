@@ -1,7 +1,7 @@
 -- What is found run by run is the dearest run.
 use Rattle.std.proofs.Common.{◌≡◌, ℕ, suc, ◌+◌, ◌-◌, ◌<◌, ◌≤◌, max, Bool, true, false, cond, leb, List, [], ◌∷◌, ◌++◌, map, length, get_or, drop, Some, None, Option, sym, refl, ap, ◌∙◌, subst, add-one, arith}
 use Rattle.std.specs.List.{AllByRecursion}
-use Rattle.std.proofs.lemmas.List.{append_assoc, append-nil, drop_more, drop_all}
+use Rattle.std.proofs.lemmas.List.{append_assoc, append-nil, drop_more}
 use Rattle.std.proofs.ByRecursion.{All-weaker}
 use Rattle.std.proofs.lemmas.Bool.{leb-true, leb-false}
 use Rattle.yard.specs.declared.force.Mast.{Mast}
@@ -79,9 +79,6 @@ module _ (of : Run → ℕ) where
       pub mast_past : (next : Option Priced) → m < length masts → get_or masts m None ≡ None → next ≡ best →
           dearest_from of next (all_feeders (standing_from (m + 1) (drop (m + 1) masts)) ps) ≡ all
       mast_past next h e f = rw (add-one m, f) (rw (add-one m) at (at_mast None h e))
-
-      pub mast_none : length masts ≤ m → best ≡ all
-      mast_none h = rw (drop_all m masts h) at inv
 
     -- the links of one pillar
     pub row_more : (p n : ℕ) (next : Option Priced) → p < n → dearest_from of best (all_links (numbers_from p (n - p))) ≡ all →

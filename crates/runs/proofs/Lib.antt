@@ -1,10 +1,9 @@
+pub mod Listed
 pub mod Reaching
 pub mod Modelled
-pub mod Lengths
 pub mod Dearer
 pub mod DearestRun
 pub mod Filling
-pub mod Listed
 pub mod Bridging
 pub mod Ruling
 pub mod Loosening

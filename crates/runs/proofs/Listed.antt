@@ -1,8 +1,9 @@
 -- The list of a plan's runs holds each of its runs, and no others.
-use Rattle.std.proofs.Common.{◌≡◌, ℕ, zero, suc, ◌+◌, ◌<◌, ◌≤◌, List, [], ◌∷◌, ◌++◌, get_or, Some, None, Option, refl, ap, subst, ⊎_elim, arith}
+use Rattle.std.proofs.Common.{◌≡◌, ℕ, zero, suc, ◌+◌, ◌<◌, ◌≤◌, List, [], ◌∷◌, ◌++◌, length, get_or, Some, None, Option, sym, refl, ap, ◌∙◌, subst, ⊎_elim, arith}
 use Rattle.std.specs.List.{AllByRecursion}
 use Rattle.std.proofs.ByRecursion.{All-append}
-use Rattle.std.proofs.lemmas.Bool.{cases_eq}
+use Rattle.std.proofs.lemmas.Bool.{cases_eq, cases_lt}
+use Rattle.std.proofs.lemmas.List.{get_or_past}
 use Rattle.yard.specs.declared.force.InForce.{InForce}
 use Rattle.yard.specs.declared.force.Mast.{Mast}
 use Rattle.yard.specs.declared.force.Run.{Run}
@@ -22,6 +23,10 @@ none_some e = subst IsNone e tt
 pub mast_there : (o : Option Mast) (s : Spot) → foot_spot o ≡ Some s → (a : Mast) × (o ≡ Some a)
 mast_there (Some a) s e = (a, refl)
 mast_there None s e = absurd (none_some e)
+
+-- a mast that stands is in the list
+pub mast_listed : (F : InForce) (m : ℕ) (a : Mast) → mast_at F m ≡ Some a → m < length F.masts
+mast_listed F m a e = ⊎_elim (λ l. l) (λ l. absurd (none_some (sym (get_or_past F.masts m None l) ∙ e))) (cases_lt m (length F.masts))
 
 module _ (Q : Run → Type 0) where
   first_part : (xs ys : List Run) → AllByRecursion Q (xs ++ ys) → AllByRecursion Q xs

@@ -1,18 +1,20 @@
 -- The best chains of tying runs say which pillars are loose.
-use Rattle.std.proofs.Common.{◌≡◌, ℕ, ◌<◌, ◌≤◌, Bool, true, false, not, ◌||◌, List, [], ◌∷◌, length, get_or, Some, None, Decides, Option, sym, refl, ap, ◌∙◌, ⊎_elim, arith, MatchOption}
+use Rattle.std.proofs.Common.{◌≡◌, ℕ, ◌<◌, Bool, true, false, not, ◌||◌, List, [], ◌∷◌, length, Some, None, Decides, Option, sym, refl, ap, ◌∙◌, arith, MatchOption}
 use native.Mathlib.Nat.{min_comm, max_comm}
-use Rattle.std.proofs.lemmas.List.{get_or_past}
-use Rattle.std.proofs.lemmas.Bool.{false≢true, both_ways, cases_lt, and_parts, and_from}
+use Rattle.std.proofs.lemmas.List.{get_or_default}
+use Rattle.std.proofs.lemmas.List.Folds.{Any-from_list_any, list_any_at}
+use Rattle.std.proofs.lemmas.Bool.{false≢true, both_ways, and_parts, and_from}
 use Rattle.chains.specs.declared.measure.Tied.{Tied}
 use Rattle.chains.specs.Chains.{Chain, Different, BestFound, chain_value}
 use Rattle.chains.specs.Measures.{of_yes, both_tied, rather}
 use Rattle.yard.specs.declared.force.InForce.{InForce}
 use Rattle.yard.specs.declared.force.Mast.{Mast}
 use Rattle.yard.specs.declared.force.Run.TheVariants.{Link}
-use Rattle.yard.specs.Force.{new_terms, mast_at, mast_terms}
+use Rattle.yard.specs.Force.{mast_at, mast_terms}
 use Rattle.runs.specs.Spots.{spot_of, foot_spot}
 use Rattle.runs.specs.Order.{terms_or_new, run_terms}
-use Rattle.runs.specs.Tying.{ties_by, TiedDown, by_feeder, by_link, Feeds, Fed, NoneLoose, LowestLoose}
+use Rattle.runs.proofs.Listed.{none_some, mast_listed}
+use Rattle.runs.specs.Tying.{ties_by, mast_ties, is_fed, TiedDown, by_feeder, by_link, Feeds, Fed, NoneLoose, LowestLoose}
 
 yes_is : (t : Tied) (b : Bool) → t ≡ of_yes b → t.yes ≡ b
 yes_is t b e = cc
@@ -27,32 +29,26 @@ rather_yes false false h e = e
 link_turned : (F : InForce) (p q : ℕ) → run_terms F (Link p q) ≡ run_terms F (Link q p)
 link_turned F p q = rw (min_comm p q, max_comm p q)
 
--- what the entry of a mast says of its feeder to a pillar
-module _ (F : InForce) (masts : List (Option Mast)) (same : masts ≡ F.masts) (p : ℕ) where
-  entry_is : (m : ℕ) (o : Option Mast) → get_or masts m None ≡ o → mast_at F m ≡ o
-  entry_is m o e = rw same at e
+-- the masts of which one has it say whether the pillar is fed
+module _ (F : InForce) (p : ℕ) where
+  feeds_from : (m : ℕ) (o : Option Mast) → mast_at F m ≡ o → mast_ties p o ≡ true → Feeds F m p
+  feeds_from m (Some a) e ties = (spot_of a.at, ap foot_spot e, ap (λ o. ties_by (terms_or_new (mast_terms o p))) e ∙ ties)
+  feeds_from m None e ties = absurd (false≢true ties)
 
-  pub standing_feeds : (m : ℕ) (a : Mast) (t : Tied) → get_or masts m None ≡ Some a → t ≡ of_yes (ties_by (get_or a.feeders p new_terms)) → Decides t.yes (Feeds F m p)
-  standing_feeds m a t e f =
-      let at = entry_is m (Some a) e in
-      let ties = yes_is t (ties_by (get_or a.feeders p new_terms)) f ∙ sym (ap (λ o. ties_by (terms_or_new (mast_terms o p))) at) in
-      (λ yes. (spot_of a.at, ap foot_spot at, sym ties ∙ yes), λ feeds. ties ∙ feeds.2)
+  ties_from : (m : ℕ) (o : Option Mast) → mast_at F m ≡ o → Feeds F m p → (m < length F.masts) × (mast_ties p o ≡ true)
+  ties_from m (Some a) e feeds = (mast_listed F m a e, sym (ap (λ o. ties_by (terms_or_new (mast_terms o p))) e) ∙ feeds.2)
+  ties_from m None e feeds = absurd (none_some (sym (ap foot_spot e) ∙ feeds.1))
 
-  pub no_mast_feeds : (m : ℕ) → get_or masts m None ≡ None → Feeds F m p → ⊥
-  no_mast_feeds m e feeds =
-      let none = ap foot_spot (entry_is m None e) in
-      let stands = feeds.1 in
-      let z : ◌≡◌ {A = ℕ} 0 1 = cc in
-      omega arith
-
-  -- no mast of the list feeds the pillar, and there is no other
-  pub none_feeds : (n : ℕ) → length masts ≤ n → ((m : ℕ) → m < n → Feeds F m p → ⊥) → Decides false (Fed F p)
-  none_feeds n long none =
-      (λ e. absurd (false≢true e), λ fed. absurd (⊎_elim (λ l. none fed.0 l fed.1) (λ l. no_mast_feeds fed.0 (get_or_past masts fed.0 None (omega arith)) fed.1) (cases_lt fed.0 n)))
+  fed_is : Decides (is_fed F p) (Fed F p)
+  fed_is = (
+    λ e. let x = Any-from_list_any (mast_ties p) F.masts e in
+        (x.0, feeds_from x.0 (mast_at F x.0) refl (rw (get_or_default F.masts x.0 None x.1 x.2) (rw x.3 x.4))),
+    λ fed. let x = ties_from fed.0 (mast_at F fed.0) refl fed.1 in list_any_at (mast_ties p) F.masts fed.0 None x.0 x.1,
+  )
 
 -- the values of entering at each pillar and of the links
 module _ (F : InForce) (first : ℕ → Tied) (run : ℕ → ℕ → Tied)
-    (enters : (p : ℕ) → p < F.count → Decides (first p).yes (Fed F p))
+    (enters : (p : ℕ) → p < F.count → first p ≡ of_yes (is_fed F p))
     (links : (p q : ℕ) → p < F.count → q < F.count → run p q ≡ of_yes (ties_by (run_terms F (Link p q)))) where
   abbrev ties_along : ℕ → List ℕ → Bool
   ties_along v c = (chain_value both_tied first run v c).yes
@@ -60,10 +56,13 @@ module _ (F : InForce) (first : ℕ → Tied) (run : ℕ → ℕ → Tied)
   link_ties : (p q : ℕ) → p < F.count → q < F.count → (run p q).yes ≡ ties_by (run_terms F (Link q p))
   link_ties p q u v = yes_is (run p q) (ties_by (run_terms F (Link p q))) (links p q u v) ∙ ap ties_by (link_turned F p q)
 
+  fed_first : (p : ℕ) → p < F.count → Decides (first p).yes (Fed F p)
+  fed_first p u = rw (enters p u) (fed_is F p)
+
   -- a chain of different pillars that ties leads from its last pillar to a mast
   tied_by : (v : ℕ) (c : List ℕ) → Chain F.count v c → Different (v ∷ c) → ties_along v c ≡ true → TiedDown F v
   tied_by v [] h d e =
-      let fed = (enters v h.0).0 e in
+      let fed = (fed_first v h.0).0 e in
       by_feeder fed.0 v fed.1.0 fed.1.1 h.0 fed.1.2
   tied_by v (u ∷ c) h d e =
       let parts = and_parts (ties_along u c) (run u v).yes e in
@@ -71,7 +70,7 @@ module _ (F : InForce) (first : ℕ → Tied) (run : ℕ → ℕ → Tied)
 
   -- a pillar that is tied down has a chain that ties
   tied_chain_to : (v : ℕ) → TiedDown F v → (c : List ℕ) × Chain F.count v c × (ties_along v c ≡ true)
-  tied_chain_to v (by_feeder m p s at u ties) = ([], (u, tt), (enters p u).1 (m, (s, at, ties)))
+  tied_chain_to v (by_feeder m p s at u ties) = ([], (u, tt), (fed_first p u).1 (m, (s, at, ties)))
   tied_chain_to v (by_link p q u w ne ties t) =
       let rest = tied_chain_to q t in
       (q ∷ rest.0, (u, rest.1), and_from (ties_along q rest.0) (run q p).yes rest.2 (link_ties q p w u ∙ ties))

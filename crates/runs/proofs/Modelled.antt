@@ -1,7 +1,7 @@
 -- When a network stands for a plan's masts and runs.
+use Rattle.std.specs.Prelude.{None}
 use Rattle.std.proofs.Common.{◌≡◌, ℕ, ◌<◌, None}
-use Rattle.chains.specs.declared.measure.Steps.{Steps}
-use Rattle.chains.specs.declared.measure.Steps.TheVariants.{Unlimited}
+use Rattle.chains.specs.Measures.{Steps}
 use Rattle.network.specs.Layout.{Layout}
 use Rattle.yard.specs.Grid.{IsReading}
 use Rattle.yard.specs.declared.force.InForce.{InForce}
@@ -16,7 +16,7 @@ pub record Models (F : InForce) (of : Run → Steps) (N : Layout) : Type 0 where
   pub covers : (m : ℕ) (s : Spot) → StandsAt F m s → m < N.points
   pub point : (m : ℕ) (s : Spot) → StandsAt F m s → IsReading s.hx s.hy (N.point m)
   pub feeder : (m p : ℕ) (s : Spot) → StandsAt F m s → p < F.count → N.feeder m p ≡ of (Feeder m p)
-  pub absent : (i p : ℕ) → i < N.points → mast_spot F i ≡ None → p < F.count → N.feeder i p ≡ Unlimited
+  pub absent : (i p : ℕ) → i < N.points → mast_spot F i ≡ None → p < F.count → N.feeder i p ≡ None
   pub link : (p q : ℕ) → p < F.count → q < F.count → N.link p q ≡ of (Link p q)
 
 -- every fixed point lies where a mast stands, so that the network has the plan's field

@@ -1,12 +1,12 @@
 -- What a chain that is too short rules out, and what the greatest positions of a plan's network are.
+use Rattle.std.specs.Prelude.{None}
 use Rattle.std.proofs.Common.{◌≡◌, ℕ, ◌+◌, ◌-◌, ◌%◌, ◌<◌, ◌≤◌, min, max, List, [], ◌∷◌, map, length, ℤ, pos, ◌+ℤ◌, ◌-ℤ◌, nat_abs, Some, None, Option, sym, refl, ap, ◌∙◌, subst, ⊎_elim, arith}
 use Rattle.std.specs.List.{AllByRecursion}
 use Rattle.std.proofs.ByRecursion.{All-weaker, All-from_get_or}
 use Rattle.std.proofs.lemmas.List.{get_or_past}
 use Rattle.std.proofs.lemmas.Int.{ints}
 use Rattle.std.proofs.lemmas.Bool.{cases_lt}
-use Rattle.chains.specs.declared.measure.Steps.{Steps}
-use Rattle.chains.specs.declared.measure.Steps.TheVariants.{Unlimited}
+use Rattle.chains.specs.Measures.{Steps}
 use Rattle.network.specs.Layout.{Layout, Within, Greatest}
 use Rattle.network.specs.Chain.{AddTo, Short}
 use Rattle.network.proofs.Triangle.{short_rules_out_lem}
@@ -21,7 +21,7 @@ use Rattle.yard.specs.declared.force.Run.TheVariants.{Feeder, Link}
 use Rattle.yard.specs.Force.{mast_at}
 use Rattle.runs.specs.Spots.{Spot, foot_spot, origin, foot_or, point_reading}
 use Rattle.runs.specs.Order.{runs_of, run_terms, FirstWith}
-use Rattle.runs.specs.Pricing.{limit_reach, reach_at}
+use Rattle.runs.specs.Pricing.{reach_at}
 use Rattle.runs.specs.Levels.{Placing, site_at, length_of, price_of, greatest, level_of, KeepsLimits, Rival, NoneKeeps, NoneLower, Found, ReadAs}
 use Rattle.runs.specs.Shortness.{run_limit, reach_of, if_stands, TooShort}
 use Rattle.runs.proofs.Modelled.{Models, Footed, Even}
@@ -59,7 +59,7 @@ pub standing_reach : (o : Option Mast) (s : Spot) (r : Steps) → foot_spot o �
 standing_reach (Some a) s r e = refl
 standing_reach None s r e = absurd (none_some e)
 
-pub absent_reach : (o : Option Mast) (r : Steps) → foot_spot o ≡ None → if_stands o r ≡ Unlimited
+pub absent_reach : (o : Option Mast) (r : Steps) → foot_spot o ≡ None → if_stands o r ≡ None
 absent_reach (Some a) r e = absurd (none_some (sym e))
 absent_reach None r e = refl
 
@@ -107,7 +107,7 @@ terms_even : (F : InForce) (p q : ℕ) → run_terms F (Link p q) ≡ run_terms 
 terms_even F p q = let x : min p q ≡ min q p = omega arith in let y : max p q ≡ max q p = omega arith in cc
 
 pub limit_even : (F : InForce) → Even (run_limit F)
-limit_even F p q = ap (λ (t : Terms). limit_reach t.limit) (terms_even F p q)
+limit_even F p q = ap (λ (t : Terms). t.limit) (terms_even F p q)
 
 pub reach_even : (F : InForce) (L : ℕ) → Even (reach_of F L)
 reach_even F L p q = ap (λ (t : Terms). reach_at t L) (terms_even F p q)

@@ -4,8 +4,6 @@ use Rattle.yard.specs.declared.force.InForce.{InForce}
 use Rattle.yard.specs.declared.force.Run.{Run}
 use Rattle.yard.specs.declared.site.Site.{Site}
 use Rattle.runs.specs.declared.dearest.Priced.{Priced}
-use Rattle.runs.specs.declared.dearest.Stand.{Stand}
-use Rattle.runs.specs.declared.dearest.Stand.TheVariants.{Nowhere, At}
 use Rattle.runs.specs.Spots.{Spot}
 use Rattle.runs.specs.Order.{run_terms, FirstWith}
 use Rattle.runs.specs.Levels.{Placing, length_of, greatest}
@@ -18,12 +16,12 @@ site_spot s = record { hx = s.hx; hy = s.hy }
 abbrev pub spots_of : List Site → Placing
 spots_of sites = map site_spot sites
 
--- the length of a run where the pillars stand so, and its price; where they stand nowhere, no run has a length
-abbrev pub length_at : InForce → Stand → Run → ℕ
-length_at F Nowhere r = 0
-length_at F (At sites) r = length_of F (spots_of sites) r
+-- the length of a run where the pillars stand at some sites, and its price; where they stand nowhere, no run has a length
+abbrev pub length_at : InForce → Option (List Site) → Run → ℕ
+length_at F None r = 0
+length_at F (Some sites) r = length_of F (spots_of sites) r
 
-abbrev pub price_by : InForce → Stand → Run → ℕ
+abbrev pub price_by : InForce → Option (List Site) → Run → ℕ
 price_by F w r = price_at (run_terms F r) (length_at F w r)
 
 -- the dearest of some runs: the first one that has the greatest price

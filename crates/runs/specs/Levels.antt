@@ -1,6 +1,7 @@
 -- Placings of a plan's pillars, what they cost, and the least level.
 use Rattle.std.specs.Prelude.{◌≡◌, ℕ, ◌<◌, ◌≤◌, max, List, [], ◌∷◌, map, length, ℤ, ◌≤ℤ◌, Some, None, Option, slice_index_or}
 use Rattle.std.specs.List.{AllByRecursion}
+use Rattle.std.specs.Option.{unwrap_or}
 use Rattle.yard.specs.Grid.{IsReading}
 use Rattle.yard.specs.declared.force.InForce.{InForce}
 use Rattle.yard.specs.declared.force.Run.{Run}
@@ -17,8 +18,7 @@ abbrev pub site_at : Placing → ℕ → Spot
 site_at P p = slice_index_or P p origin
 
 abbrev pub spot_or_origin : Option Spot → Spot
-spot_or_origin (Some s) = s
-spot_or_origin None = origin
+spot_or_origin o = unwrap_or o origin
 
 -- the length and the price of a run
 abbrev pub length_of : InForce → Placing → Run → ℕ

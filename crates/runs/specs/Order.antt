@@ -1,6 +1,7 @@
 -- The runs of a plan in run order, and their terms.
 use Rattle.std.specs.Prelude.{◌≡◌, ℕ, zero, suc, min, max, List, [], ◌∷◌, ◌++◌, Some, None, Option}
 use Rattle.std.specs.List.{AllByRecursion}
+use Rattle.std.specs.Option.{unwrap_or}
 use Rattle.yard.specs.declared.force.InForce.{InForce}
 use Rattle.yard.specs.declared.force.Mast.{Mast}
 use Rattle.yard.specs.declared.force.Terms.{Terms}
@@ -41,8 +42,7 @@ runs_of F = all_feeders (standing_from 0 F.masts) (numbers_from 0 F.count) ++ al
 
 -- the terms of a run; a link is one run from either end
 abbrev pub terms_or_new : Option Terms → Terms
-terms_or_new (Some t) = t
-terms_or_new None = new_terms
+terms_or_new o = unwrap_or o new_terms
 
 abbrev pub run_terms : InForce → Run → Terms
 run_terms F (Feeder m p) = terms_or_new (mast_terms (mast_at F m) p)

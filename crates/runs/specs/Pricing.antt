@@ -1,7 +1,6 @@
 -- What a run costs, and how far it can go at a level.
 use Rattle.std.specs.Prelude.{ℕ, zero, suc, ◌+◌, ◌-◌, ◌*◌, ◌/◌, ◌≤◌, min, Some, None, Option}
-use Rattle.chains.specs.declared.measure.Steps.{Steps}
-use Rattle.chains.specs.declared.measure.Steps.TheVariants.{Limited, Unlimited}
+use Rattle.chains.specs.Measures.{Steps}
 use Rattle.network.specs.Layout.{Within}
 use Rattle.yard.specs.declared.force.Terms.{Terms}
 
@@ -13,24 +12,19 @@ abbrev pub KeepsLimit : ℕ → Option ℕ → Type 0
 KeepsLimit n (Some limit) = n ≤ limit
 KeepsLimit n None = Unit {0}
 
--- a limit as a reach: none is unlimited
-abbrev pub limit_reach : Option ℕ → Steps
-limit_reach (Some limit) = Limited limit
-limit_reach None = Unlimited
-
 -- what is left of the level above the fixed price, over the rate and rounded down; at rate 0 it is no bound
 abbrev pub paid_reach : ℕ → ℕ → Steps
-paid_reach zero left = Unlimited
-paid_reach (suc r) left = Limited (left / suc r)
+paid_reach zero left = None
+paid_reach (suc r) left = Some (left / suc r)
 
 -- the smaller of two reaches
 abbrev pub nearer : Steps → Steps → Steps
-nearer Unlimited b = b
-nearer (Limited a) Unlimited = Limited a
-nearer (Limited a) (Limited b) = Limited (min a b)
+nearer None b = b
+nearer (Some a) None = Some a
+nearer (Some a) (Some b) = Some (min a b)
 
 abbrev pub reach_at : Terms → ℕ → Steps
-reach_at t level = nearer (limit_reach t.limit) (paid_reach t.rate (level - t.fixed))
+reach_at t level = nearer t.limit (paid_reach t.rate (level - t.fixed))
 
 -- At a level that pays the fixed price, the lengths within the reach are exactly those that keep the limit and cost no more than the level.
 pub record Exact (t : Terms) (level : ℕ) (r : Steps) : Type 0 where

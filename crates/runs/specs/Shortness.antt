@@ -1,8 +1,8 @@
 -- Chains of runs between two masts, and when one is too short.
 use Rattle.std.specs.Prelude.{◌≡◌, ℕ, ◌<◌, List, [], ◌∷◌, map, length, Some, None, Option}
 use Rattle.std.specs.List.{AllByRecursion}
-use Rattle.chains.specs.declared.measure.Steps.{Steps}
-use Rattle.chains.specs.declared.measure.Steps.TheVariants.{Unlimited}
+use Rattle.std.specs.Option.{option_and_then}
+use Rattle.chains.specs.Measures.{Steps}
 use Rattle.chains.specs.Chains.{Different}
 use Rattle.network.specs.Chain.{AddTo}
 use Rattle.yard.specs.declared.force.InForce.{InForce}
@@ -11,19 +11,18 @@ use Rattle.yard.specs.declared.force.Run.{Run}
 use Rattle.yard.specs.declared.force.Run.TheVariants.{Feeder, Link}
 use Rattle.runs.specs.Spots.{Spot, StandsAt, steps_between}
 use Rattle.runs.specs.Order.{run_terms}
-use Rattle.runs.specs.Pricing.{limit_reach, reach_at}
+use Rattle.runs.specs.Pricing.{reach_at}
 
 -- how far a run can go by its limit, and at a level
 abbrev pub run_limit : InForce → Run → Steps
-run_limit F r = limit_reach (run_terms F r).limit
+run_limit F r = (run_terms F r).limit
 
 abbrev pub reach_of : InForce → ℕ → Run → Steps
 reach_of F L r = reach_at (run_terms F r) L
 
 -- from a number whose mast does not stand every reach is unlimited
 abbrev pub if_stands : Option Mast → Steps → Steps
-if_stands (Some a) r = r
-if_stands None r = Unlimited
+if_stands o r = option_and_then (λ _. r) o
 
 -- the runs from a pillar on by further pillars to a mast
 abbrev pub runs_onward : ℕ → List ℕ → ℕ → List Run

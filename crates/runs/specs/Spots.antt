@@ -1,5 +1,6 @@
 -- Spots on the trench grid, by twice their x and twice their y.
 use Rattle.std.specs.Prelude.{◌≡◌, ℕ, ◌%◌, ℤ, pos, ◌+ℤ◌, ◌-ℤ◌, Some, None, Option, unsigned_abs}
+use Rattle.std.specs.Option.{option_map, option_map_or}
 use Rattle.yard.specs.declared.force.InForce.{InForce}
 use Rattle.yard.specs.declared.force.Mast.{Mast}
 use Rattle.yard.specs.declared.force.Point.{Point}
@@ -35,8 +36,7 @@ origin = record { hx = pos 0; hy = pos 0 }
 
 -- where the mast of a number stands, if it does
 abbrev pub foot_spot : Option Mast → Option Spot
-foot_spot (Some a) = Some (spot_of a.at)
-foot_spot None = None
+foot_spot o = option_map (λ a. spot_of a.at) o
 
 abbrev pub mast_spot : InForce → ℕ → Option Spot
 mast_spot F m = foot_spot (mast_at F m)
@@ -50,8 +50,7 @@ SomeMast F = (m : ℕ) × (s : Spot) × StandsAt F m s
 
 -- where a mast stands, or else a point that stands in for it, and the reading of a point
 abbrev pub foot_or : Option Mast → Point → Point
-foot_or (Some a) p = a.at
-foot_or None p = p
+foot_or o p = option_map_or (λ a. a.at) o p
 
 abbrev pub point_reading : Point → ℤ × ℤ
 point_reading p = (p.x +ℤ p.y, p.x -ℤ p.y)

@@ -1,18 +1,27 @@
 -- Which runs tie, and which pillars are loose.
-use Rattle.std.specs.Prelude.{◌≡◌, ℕ, ◌<◌, Bool, true, false, ◌||◌, Some, None, Option, ◌≢◌, nat_lt}
+use Rattle.std.specs.Prelude.{◌≡◌, ℕ, ◌<◌, Bool, true, false, ◌||◌, Some, None, Option, ◌≢◌, nat_lt, slice_index_or}
+use Rattle.std.specs.List.{list_any}
+use Rattle.std.specs.Option.{is_some}
 use Rattle.yard.specs.declared.force.InForce.{InForce}
+use Rattle.yard.specs.declared.force.Mast.{Mast}
 use Rattle.yard.specs.declared.force.Terms.{Terms}
 use Rattle.yard.specs.declared.force.Run.TheVariants.{Feeder, Link}
+use Rattle.yard.specs.Force.{new_terms}
 use Rattle.runs.specs.Spots.{Spot, StandsAt, SomeMast}
 use Rattle.runs.specs.Order.{run_terms}
 
-abbrev pub has_limit : Option ℕ → Bool
-has_limit (Some n) = true
-has_limit None = false
-
 -- a run ties if its rate is above 0 or it has a limit
 abbrev pub ties_by : Terms → Bool
-ties_by t = nat_lt 0 t.rate || has_limit t.limit
+ties_by t = nat_lt 0 t.rate || is_some t.limit
+
+-- a mast stands, and its feeder to a pillar ties
+abbrev pub mast_ties : ℕ → Option Mast → Bool
+mast_ties p (Some a) = ties_by (slice_index_or a.feeders p new_terms)
+mast_ties p None = false
+
+-- one of the plan's masts does
+abbrev pub is_fed : InForce → ℕ → Bool
+is_fed F p = list_any (mast_ties p) F.masts
 
 -- tying runs, each joined to the next at a pillar, lead from a pillar to a standing mast
 pub data TiedDown (F : InForce) : ℕ → Type 0 where

@@ -1,7 +1,7 @@
 // What a run costs, and how far it can go at a level.
 
 ghost use Rattle.std.specs.Prelude.{◌≡◌};
-ghost use Rattle.runs.specs.Pricing.{price_at, limit_reach, reach_at, Exact};
+ghost use Rattle.runs.specs.Pricing.{price_at, reach_at, Exact};
 
 use chains::measure::Steps;
 use yard::force::Terms;
@@ -19,21 +19,8 @@ pub fn reach(terms: Terms, level: u32) -> Steps
     ensures exact { Exact terms level result }
 {
     if terms.rate == 0 {
-        return limit_of(terms);
+        return terms.limit.map(u64::from);
     }
     let paid = level.saturating_sub(terms.fixed) / terms.rate as u32;
-    match terms.limit {
-        Some(limit) => Steps::Limited(limit.min(paid) as u64),
-        None => Steps::Limited(paid as u64),
-    }
-}
-
-// The limit as a reach.
-fn limit_of(terms: Terms) -> Steps
-    ensures { result ≡ limit_reach terms.limit }
-{
-    match terms.limit {
-        Some(limit) => Steps::Limited(limit as u64),
-        None => Steps::Unlimited,
-    }
+    Some(terms.limit.unwrap_or(paid).min(paid) as u64)
 }

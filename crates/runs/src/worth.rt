@@ -11,6 +11,7 @@ ghost use Rattle.runs.specs.Pricing.{reach_at};
 
 use crate::pricing::reach;
 use chains::measure::{Measure, Steps, Tied};
+use std::array;
 use yard::force::Terms;
 use yard::plan::Plan;
 
@@ -47,21 +48,18 @@ fn link_row<M: Worth>(plan: &Plan, level: u32, p: usize) -> [M; 12]
     requires { p < 12 }
     ensures { (q : ℕ) → q < plan.now.force.count → slice_index_or result q M.Measure.empty ≡ M.worth (run_terms plan.now.force (link_run p q)) level }
 {
-    let mut row = [M::none(); 12];
     let rows = plan.links();
-    for q in 0..plan.pillars() as usize {
-        row[q] = M::of(rows[p.min(q)][p.max(q)], level);
-    }
-    row
+    array::from_fn(|q| M::of(rows[p.min(q)][p.max(q)], level))
 }
 
 // What the links between each two pillars are worth: a row for each pillar.
 pub fn link_rows<M: Worth>(plan: &Plan, level: u32) -> [[M; 12]; 12]
     ensures { (p q : ℕ) → p < plan.now.force.count → q < plan.now.force.count → run_at M.Measure.empty result p q ≡ M.worth (run_terms plan.now.force (link_run p q)) level }
 {
+    // not by `from_fn`: in its closure it is not known that a row of any measure fits in memory
     let mut rows = [[M::none(); 12]; 12];
-    for p in 0..plan.pillars() as usize {
-        rows[p] = link_row(plan, level, p);
+    for (p, row) in rows.iter_mut().enumerate() {
+        *row = link_row(plan, level, p);
     }
     rows
 }

@@ -1,40 +1,32 @@
 -- The lines of an input served one after the other.
-use Rattle.std.proofs.Common.{◌≡◌, ℕ, ◌-◌, ◌<◌, ◌≤◌, ◌⊎◌, List, [], ◌∷◌, ◌++◌, length, take, Result, sym, refl, ap, ◌∙◌, subst, inl, inr, ⊎_elim, arith}
+use Rattle.std.proofs.Common.{◌≡◌, ℕ, ◌-◌, ◌≤◌, List, [], ◌∷◌, ◌++◌, length, take, Result, sym, refl, ap, ◌∙◌, subst, ⊎_elim, arith}
 use native.Mathlib.Nat.{sub-zero}
-use Rattle.std.proofs.lemmas.List.{append_assoc, append-nil, length-append, take_at}
+use Rattle.std.proofs.lemmas.List.{append_assoc, append-nil, take_at}
 use Rattle.std.proofs.lemmas.Bool.{cases_lt}
 use Rattle.yard.specs.declared.force.InForce.{InForce}
 use Rattle.yard.specs.Force.{opened_at}
-use Rattle.frames.specs.Lines.{FirstLine, lines_of}
+use Rattle.frames.specs.Lines.{lines_of}
 use Rattle.frames.specs.Writing.{over_head}
 use Rattle.frames.proofs.Rereading.{reads_once}
 use Rattle.service.specs.declared.fault.ServeFault.{ServeFault}
 use Rattle.service.specs.Serving.{LineServed, outcome, force_after, reply_text}
 use Rattle.service.specs.Output.{AllServed, Gives}
 
--- what comes after the first line is shorter
-pub rest_shorter : (input line rest : List ℕ) → FirstLine input line rest → length rest < length input
-rest_shorter input line rest f = go f.whole
-  where
-    go : (input ≡ line ++ (10 ∷ rest)) ⊎ ((input ≡ line) × (rest ≡ [])) → length rest < length input
-    go (inl e) = omega (arith, ap length e ∙ length-append line (10 ∷ rest))
-    go (inr e) = omega (arith, f.some_bytes, ap length e.1)
-
 -- what serving wrote is the head of the buffer
 pub head_of : (text was now : List ℕ) (n : ℕ) → n ≡ length text → now ≡ over_head text was → take (n - 0) now ≡ text
 head_of text was now n e f = rw (sub-zero n, f) (take_at text _ n (sym e))
 
-module _ (first : InForce) (all : List (List ℕ)) (out : List ℕ) (F : InForce) (rest : List ℕ)
-    (inv : (more : List ℕ) → AllServed F (lines_of rest) more → AllServed first all (out ++ more)) where
+module _ (first : InForce) (all : List (List ℕ)) (out : List ℕ) (F : InForce) (left : List (List ℕ))
+    (inv : (more : List ℕ) → AllServed F left more → AllServed first all (out ++ more)) where
   -- one line more
-  pub one_more : (line after : List ℕ) (r : Result (Unit {0}) ServeFault) (G : InForce) (grown : List ℕ) → lines_of rest ≡ line ∷ lines_of after → LineServed F line r G →
-      grown ≡ out ++ reply_text r → (more : List ℕ) → AllServed G (lines_of after) more → AllServed first all (grown ++ more)
+  pub one_more : (line : List ℕ) (after : List (List ℕ)) (r : Result (Unit {0}) ServeFault) (G : InForce) (grown : List ℕ) → left ≡ line ∷ after → LineServed F line r G →
+      grown ≡ out ++ reply_text r → (more : List ℕ) → AllServed G after more → AllServed first all (grown ++ more)
   one_more line after r G grown e s g more h =
       subst (AllServed first all) (sym (ap (λ l. l ++ more) g ∙ append_assoc out (reply_text r) more))
       (inv (reply_text r ++ more) (subst (λ (ls : List (List ℕ)). AllServed F ls (reply_text r ++ more)) (sym e) (r, more, G, s, h, refl)))
 
   -- and at the end none
-  pub no_more : lines_of rest ≡ [] → AllServed first all out
+  pub no_more : left ≡ [] → AllServed first all out
   no_more e = subst (AllServed first all) (append-nil out) (inv [] (subst (λ (ls : List (List ℕ)). AllServed F ls []) (sym e) refl))
 
 pub all_given : (input out : List ℕ) → length input ≤ 32768 → AllServed (opened_at 1) (lines_of input) out → Gives input out

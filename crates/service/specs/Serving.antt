@@ -3,6 +3,7 @@ use Rattle.std.specs.Prelude.{◌≡◌, ℕ, ◌<◌, ◌≤◌, List, length, 
 use Rattle.yard.specs.declared.fault.Refusal.{Refusal}
 use Rattle.yard.specs.declared.fault.EntryFault.{EntryFault}
 use Rattle.yard.specs.declared.force.InForce.{InForce}
+use Rattle.yard.specs.Rows.{rule_number}
 use Rattle.yard.specs.Edits.{answered, after_edit}
 use Rattle.frames.specs.declared.call.Call.{Call}
 use Rattle.frames.specs.declared.call.Call.TheVariants.{Edit, Place, Why, Dearest, Nearest}
@@ -41,7 +42,7 @@ force_after F (Err f) = F
 
 -- the answer: Taken, or Refused with the refusal's number and place
 abbrev pub refused : Refusal → Answer
-refused r = Refused r.number r.place
+refused r = Refused (rule_number r.rule) r.place
 
 abbrev pub reply : Result (Unit {0}) ServeFault → Answer
 reply (Ok u) = Taken

@@ -5,9 +5,9 @@ ghost use Rattle.service.specs.Faults.{serve_refusal};
 ghost use Rattle.service.specs.declared.fault.ServeFault.TheVariants.{Frame as in_frame, Entry as in_entry};
 
 use frames::fault::FrameFault;
-use yard::fault::{EntryFault, Layer, Refusal};
+use yard::fault::{EntryFault, Refusal, Rule};
 
-#[derive(Clone, Copy)]
+#[derive(Clone, Copy, PartialEq, Eq, Debug)]
 pub enum ServeFault {
     // the buffer is under 512 bytes
     Memory,
@@ -15,6 +15,7 @@ pub enum ServeFault {
     Entry(EntryFault),
 }
 
+// By hand: a derived `From` has no contract.
 impl From<FrameFault> for ServeFault {
     ghost from_gives = { λ f g. g ≡ in_frame f };
 
@@ -23,6 +24,7 @@ impl From<FrameFault> for ServeFault {
     }
 }
 
+// By hand: a derived `From` has no contract.
 impl From<EntryFault> for ServeFault {
     ghost from_gives = { λ f g. g ≡ in_entry f };
 
@@ -31,15 +33,14 @@ impl From<EntryFault> for ServeFault {
     }
 }
 
-impl ServeFault {
-    // The refusal as it is told.
-    pub fn refusal(self) -> Refusal
-        ensures { result ≡ serve_refusal self }
-    {
-        match self {
-            ServeFault::Memory => Layer::Memory.refusal(16, 0),
-            ServeFault::Frame(fault) => fault.refusal(),
-            ServeFault::Entry(fault) => fault.refusal(),
+impl From<ServeFault> for Refusal {
+    ghost from_gives = { λ f r. r ≡ serve_refusal f };
+
+    fn from(fault: ServeFault) -> Refusal {
+        match fault {
+            ServeFault::Memory => Rule::Room.at(0),
+            ServeFault::Frame(fault) => fault.into(),
+            ServeFault::Entry(fault) => fault.into(),
         }
     }
 }

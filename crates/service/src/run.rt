@@ -1,15 +1,30 @@
 // A whole input served.
 
-ghost use Rattle.std.specs.Prelude.{◌≡◌, ℕ, List, IfOk};
+ghost use Rattle.std.specs.Prelude.{◌≡◌, ℕ, List, ◌++◌, Err, IfOk};
+ghost use Rattle.service.specs.declared.fault.ServeFault.TheVariants.{Memory};
+ghost use Rattle.service.specs.Serving.{reply_text};
 ghost use Rattle.service.specs.Output.{Gives};
 
-use crate::serve::serve;
-use frames::lines::split_line;
+use crate::fault::ServeFault;
+use crate::serve::{serve, told};
+use frames::lines::Lines;
+use frames::write::write_answer;
 use std::alloc::{AllocError, Global};
 use yard::plan::Plan;
 
 // The longest input that is served, in bytes.
 pub const MOST_SERVED: usize = 32_768;
+
+// Tells in `output` that the input is too long.
+fn refuse(output: &mut Vec<u8>) -> Result<(), AllocError>
+    ensures { IfOk result (λ _. output.new.items ≡ output.old.items ++ reply_text (Err Memory)) }
+{
+    let mut buffer = [0; 512];
+    let Some(count) = write_answer(told(ServeFault::Memory), &mut buffer) else {
+        unreachable()
+    };
+    output.extend_from_slice(&buffer[0..count])
+}
 
 // Every line of the input served in order on one new plan; an input over 32,768 bytes gets only a refusal.
 pub fn serve_input(heap: Global, input: &[u8]) -> Result<Vec<u8>, AllocError>
@@ -18,18 +33,16 @@ pub fn serve_input(heap: Global, input: &[u8]) -> Result<Vec<u8>, AllocError>
 {
     let mut output = Vec::new(heap);
     if input.len() > MOST_SERVED {
-        output.extend_from_slice(b"8210006E\n")?;
+        refuse(&mut output)?;
         return Ok(output);
     }
     let mut plan = Plan::new();
-    let mut rest = input;
-    while let Some((line, after)) = split_line(rest) {
+    for line in Lines::new(input) {
         let mut buffer = [0; 512];
         let Ok(count) = serve(&mut plan, line, &mut buffer) else {
             unreachable()
         };
         output.extend_from_slice(&buffer[0..count])?;
-        rest = after;
     }
     Ok(output)
 }

@@ -1,6 +1,8 @@
 // One line served on a plan.
 
-ghost use Rattle.service.specs.Serving.{LineServed, LineAnswered, Served};
+ghost use Rattle.std.specs.Prelude.{◌≡◌};
+ghost use Rattle.service.specs.Faults.{serve_refusal};
+ghost use Rattle.service.specs.Serving.{refused, LineServed, LineAnswered, Served};
 
 use crate::fault::ServeFault;
 use frames::answer::Answer;
@@ -8,8 +10,10 @@ use frames::call::Call;
 use frames::fault::FrameFault;
 use frames::read::read_call;
 use frames::write::write_answer;
+use yard::fault::Refusal;
 use yard::plan::Plan;
 
+// The plan and the line go through three functions, one inside the other: a struct of both would live for one call, which is no plainer.
 // Makes the call of a line; the calls other than edits are not served yet.
 fn make(plan: &mut Plan, line: &[u8]) -> Result<(), ServeFault>
     ensures { LineServed plan.old.force line.now result plan.new.force }
@@ -22,19 +26,24 @@ fn make(plan: &mut Plan, line: &[u8]) -> Result<(), ServeFault>
     }
 }
 
+// How a fault is told.
+pub(crate) fn told(fault: ServeFault) -> Answer<'static>
+    ensures { result ≡ refused (serve_refusal fault) }
+{
+    let Refusal { rule, place } = fault.into();
+    Answer::Refused {
+        number: rule.number(),
+        place,
+    }
+}
+
 // The answer that a line gets.
 fn answer(plan: &mut Plan, line: &[u8]) -> Answer<'static>
     ensures { LineAnswered plan.old.force line.now result plan.new.force }
 {
     match make(plan, line) {
         Ok(()) => Answer::Taken,
-        Err(fault) => {
-            let refusal = fault.refusal();
-            Answer::Refused {
-                number: refusal.number,
-                place: refusal.place,
-            }
-        }
+        Err(fault) => told(fault),
     }
 }
 

@@ -1,10 +1,10 @@
-// Refusals: what a caller is told, and the rows that entries are held to.
+// Refusals: what a caller is told, and the rules that calls are held to.
 
 ghost use Rattle.std.specs.Prelude.{◌≡◌};
-ghost use Rattle.yard.specs.Rows.{refusal_of, entry_refusal};
+ghost use Rattle.yard.specs.Rows.{rule_number, rule_layer, refusal_of, entry_refusal};
 
 // The layers that refuse, from the outermost rule to the innermost.
-#[derive(Clone, Copy)]
+#[derive(Clone, Copy, PartialEq, Eq, Debug)]
 pub enum Layer {
     Memory,
     Line,
@@ -13,29 +13,8 @@ pub enum Layer {
     Placing,
 }
 
-// A refusal as it is told: the number of its rule, the layer of that rule, and where in the call it lies.
-#[derive(Clone, Copy)]
-pub struct Refusal {
-    pub number: u8,
-    pub layer: Layer,
-    pub place: u8,
-}
-
-impl Layer {
-    // A refusal of this layer.
-    pub fn refusal(self, number: u8, place: u8) -> Refusal
-        ensures { result ≡ refusal_of self number place }
-    {
-        Refusal {
-            number,
-            layer: self,
-            place,
-        }
-    }
-}
-
 // What can be wrong with a field of an edit.
-#[derive(Clone, Copy)]
+#[derive(Clone, Copy, PartialEq, Eq, Debug)]
 pub enum EntryRow {
     // the pillar count is not 1 to 12
     PillarCount,
@@ -53,11 +32,86 @@ pub enum EntryRow {
     TermRange,
 }
 
+// The rules by which a call is refused, with the rows of entries among them.
+#[derive(Clone, Copy, PartialEq, Eq, Debug)]
+pub enum Rule {
+    // a line has no character, an odd number of them, or over 64
+    LineLength,
+    // a character is no digit
+    NoDigit,
+    // the bytes do not add to 0 modulo 256
+    CheckSum,
+    // no call has this kind and this length
+    Kind,
+    // a field of an edit is wrong
+    Entry(EntryRow),
+    // no mast stands
+    NoMast,
+    // a pillar is loose
+    Loose,
+    // no placing keeps all limits
+    Unkept,
+    // a buffer or a list is too short
+    Room,
+}
+
+// A refusal: the rule, by whose number and layer it is told, and where in the call it lies.
+#[derive(Clone, Copy, PartialEq, Eq, Debug)]
+pub struct Refusal {
+    pub rule: Rule,
+    pub place: u8,
+}
+
 // An entry that is refused: what is wrong, and the offset of the field in the call's frame.
-#[derive(Clone, Copy)]
+#[derive(Clone, Copy, PartialEq, Eq, Debug)]
 pub struct EntryFault {
     pub row: EntryRow,
     pub place: u8,
+}
+
+impl Rule {
+    // The number by which the rule is told.
+    pub fn number(self) -> u8
+        ensures { result ≡ rule_number self }
+    {
+        match self {
+            Rule::LineLength => 1,
+            Rule::NoDigit => 2,
+            Rule::CheckSum => 3,
+            Rule::Kind => 4,
+            Rule::Entry(EntryRow::PillarCount) => 5,
+            Rule::Entry(EntryRow::MastNumber) => 6,
+            Rule::Entry(EntryRow::NotStanding) => 7,
+            Rule::Entry(EntryRow::OffGrid) => 8,
+            Rule::Entry(EntryRow::NoPillar) => 9,
+            Rule::Entry(EntryRow::SelfLink) => 10,
+            Rule::Entry(EntryRow::TermRange) => 11,
+            Rule::NoMast => 13,
+            Rule::Loose => 14,
+            Rule::Unkept => 15,
+            Rule::Room => 16,
+        }
+    }
+
+    // The layer of the rule.
+    pub fn layer(self) -> Layer
+        ensures { result ≡ rule_layer self }
+    {
+        match self {
+            Rule::Room => Layer::Memory,
+            Rule::LineLength | Rule::NoDigit => Layer::Line,
+            Rule::CheckSum | Rule::Kind => Layer::Frame,
+            Rule::Entry(_) => Layer::Entry,
+            Rule::NoMast | Rule::Loose | Rule::Unkept => Layer::Placing,
+        }
+    }
+
+    // The refusal by this rule at a place of the call.
+    pub fn at(self, place: u8) -> Refusal
+        ensures { result ≡ refusal_of self place }
+    {
+        Refusal { rule: self, place }
+    }
 }
 
 impl EntryRow {
@@ -70,20 +124,10 @@ impl EntryRow {
     }
 }
 
-impl EntryFault {
-    // The refusal as it is told.
-    pub fn refusal(self) -> Refusal
-        ensures { result ≡ entry_refusal self }
-    {
-        let number = match self.row {
-            EntryRow::PillarCount => 5,
-            EntryRow::MastNumber => 6,
-            EntryRow::NotStanding => 7,
-            EntryRow::OffGrid => 8,
-            EntryRow::NoPillar => 9,
-            EntryRow::SelfLink => 10,
-            EntryRow::TermRange => 11,
-        };
-        Layer::Entry.refusal(number, self.place)
+impl From<EntryFault> for Refusal {
+    ghost from_gives = { λ f r. r ≡ entry_refusal f };
+
+    fn from(fault: EntryFault) -> Refusal {
+        Rule::Entry(fault.row).at(fault.place)
     }
 }

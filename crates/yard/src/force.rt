@@ -1,6 +1,6 @@
 // What is in force on a plan: a pillar count, the standing masts and the terms of each run.
 
-ghost use Rattle.std.specs.Prelude.{◌≡◌};
+ghost use Rattle.std.specs.Prelude.{◌≡◌, ◌<◌, slice_set};
 ghost use Rattle.yard.specs.Force.{opened_at};
 
 // The most pillars and masts of a plan.
@@ -9,14 +9,14 @@ pub const PILLARS: usize = 12;
 pub const MASTS: usize = 40;
 
 // Where a mast stands, in whole steps.
-#[derive(Clone, Copy)]
+#[derive(Clone, Copy, PartialEq, Eq, Debug)]
 pub struct Point {
     pub x: i32,
     pub y: i32,
 }
 
 // The terms of a run: cents a step, cents at once, and the greatest length in steps if there is one.
-#[derive(Clone, Copy)]
+#[derive(Clone, Copy, PartialEq, Eq, Debug, Default)]
 pub struct Terms {
     pub rate: u16,
     pub fixed: u32,
@@ -34,11 +34,11 @@ pub const NEW_TERMS: Terms = Terms {
 #[derive(Clone, Copy)]
 pub struct Mast {
     pub at: Point,
-    pub feeders: [Terms; 12],
+    pub feeders: [Terms; PILLARS],
 }
 
 // A run: from a mast to a pillar, or between two pillars.
-#[derive(Clone, Copy)]
+#[derive(Clone, Copy, PartialEq, Eq, Debug)]
 pub enum Run {
     Feeder { mast: u8, pillar: u8 },
     Link { one: u8, other: u8 },
@@ -48,8 +48,20 @@ pub enum Run {
 #[derive(Drop)]
 pub struct InForce {
     pub count: u8,
-    pub masts: [Option<Mast>; 40],
-    pub links: [[Terms; 12]; 12],
+    pub masts: [Option<Mast>; MASTS],
+    pub links: [[Terms; PILLARS]; PILLARS],
+}
+
+impl Mast {
+    // The mast with other terms to a pillar.
+    pub(crate) fn refed(mut self, pillar: u8, terms: Terms) -> Mast
+        requires { pillar < 12 }
+        ensures at { result.at ≡ self.at }
+        ensures feeders { result.feeders ≡ slice_set self.feeders pillar terms }
+    {
+        self.feeders[pillar as usize] = terms;
+        self
+    }
 }
 
 impl InForce {

@@ -3,7 +3,7 @@
 ghost use Rattle.std.specs.Prelude.{◌≡◌, ℕ, ◌%◌, ◌≤◌, unsigned_abs};
 
 // A site by its halves, twice its x and twice its y: both even or both odd, each at most 200,000 from 0.
-#[derive(Clone, Copy)]
+#[derive(Clone, Copy, PartialEq, Eq, Debug)]
 pub struct Site {
     hx: i32,
     hy: i32,

@@ -1,9 +1,9 @@
 -- How large a pillar's sum or difference can be at a level: up to the field's edge, or as far as a chain from a mast leads.
-use Rattle.std.proofs.Common.{◌≡◌, ℕ, ◌+◌, ◌<◌, ◌≤◌, List, [], ◌∷◌, ℤ, pos, ◌+ℤ◌, ◌-ℤ◌, nat_abs, ◌≤ℤ◌, Some, None, Option, ◌∙◌, subst, arith}
+use Rattle.std.specs.Prelude.{Some}
+use Rattle.std.proofs.Common.{◌≡◌, ℕ, ◌+◌, ◌<◌, ◌≤◌, List, [], ◌∷◌, ℤ, pos, ◌+ℤ◌, ◌-ℤ◌, nat_abs, ◌≤ℤ◌, Some, None, Option, ◌∙◌, arith}
 use Rattle.std.specs.List.{AllByRecursion}
-use Rattle.std.proofs.ByRecursion.{All-get_or}
+use Rattle.std.proofs.lemmas.List.Elements.{All-from_recursion}
 use Rattle.std.proofs.lemmas.Int.{ints}
-use Rattle.chains.specs.declared.measure.Steps.TheVariants.{Limited}
 use Rattle.network.specs.Layout.{apart, Meets}
 use Rattle.network.proofs.Sums.{within_limited}
 use Rattle.network.proofs.Triangle.{apart_turned}
@@ -42,9 +42,6 @@ differences = record { twice = twice_difference; once = λ r. r.1; double = λ s
 step_up : (x y X Y z : ℤ) (r : ℕ) → x +ℤ x ≡ X → y +ℤ y ≡ Y → nat_abs (x -ℤ y) ≤ r → X ≤ℤ (z -ℤ pos (r + r)) → Y ≤ℤ z
 step_up x y X Y z r e f h k = omega (arith, ints)
 
-transitive : (x y z : ℤ) → x ≤ℤ y → y ≤ℤ z → x ≤ℤ z
-transitive x y z h k = omega (arith, ints)
-
 -- a rival in the field with each run within its reach at the level
 pub record Eligible (F : InForce) (L : ℕ) (R : Placing) : Type 0 where
   pub sites : Rival F R
@@ -67,7 +64,7 @@ abbrev Under : Axis → ℤ → Option Mast → Type 0
 Under a z o = (s : Spot) → foot_spot o ≡ Some s → a.twice s ≤ℤ z
 
 pub foot_under : (a : Axis) (z : ℤ) (b : Mast) → a.twice (spot_of b.at) ≤ℤ z → Under a z (Some b)
-foot_under a z b h s e = let same : spot_of b.at ≡ s = cc in subst (λ (t : Spot). a.twice t ≤ℤ z) same h
+foot_under a z b h s e = let same : spot_of b.at ≡ s = cc in rw (← same) h
 
 pub none_under : (a : Axis) (z : ℤ) → Under a z None
 none_under a z s e = absurd (none_some e)
@@ -82,10 +79,11 @@ module _ (F : InForce) (L : ℕ) (a : Axis) (p : ℕ) (z : ℤ) (in_p : p < F.co
 
   pub at_edge : AllByRecursion (Under a z) F.masts → Capped F L a p z
   at_edge h R E =
-      let b = (a.field F (site_at R p) (All-get_or _ R p origin (omega (arith, E.sites.0)) E.in_field)).1 in
-      transitive _ _ _ b.3 (All-get_or (Under a z) F.masts b.0 None ((network_models F (reach_of F L)).covers b.0 b.1 b.2) h b.1 b.2)
+      let b = (a.field F (site_at R p) (All-from_recursion _ R E.in_field p origin (omega (arith, E.sites.0)))).1 in
+      let u : a.twice b.1 ≤ℤ z = All-from_recursion (Under a z) F.masts h b.0 None ((network_models F (reach_of F L)).covers b.0 b.1 b.2) b.1 b.2 in
+      omega (arith, ints, b.3, u)
 
-  pub at_mast : (m : ℕ) (s : Spot) (r : ℕ) → StandsAt F m s → reach_of F L (Feeder m p) ≡ Limited r → a.twice s ≤ℤ (z -ℤ pos (r + r)) → Capped F L a p z
+  pub at_mast : (m : ℕ) (s : Spot) (r : ℕ) → StandsAt F m s → reach_of F L (Feeder m p) ≡ Some r → a.twice s ≤ℤ (z -ℤ pos (r + r)) → Capped F L a p z
   at_mast m s r e f h R E =
       let N = network_of F (reach_of F L) in
       let M = network_models F (reach_of F L) in
@@ -93,7 +91,7 @@ module _ (F : InForce) (L : ℕ) (a : Axis) (p : ℕ) (z : ℤ) (in_p : p < F.co
       step_up (a.once (N.point m)) (a.once (readings R p)) _ _ z r (a.double s (N.point m) (M.point m s e)) (reading R E p in_p)
       (omega (arith, a.near (N.point m) (readings R p))) h
 
-  pub at_pillar : (q r : ℕ) → q < F.count → reach_of F L (Link p q) ≡ Limited r → Capped F L a q (z -ℤ pos (r + r)) → Capped F L a p z
+  pub at_pillar : (q r : ℕ) → q < F.count → reach_of F L (Link p q) ≡ Some r → Capped F L a q (z -ℤ pos (r + r)) → Capped F L a p z
   at_pillar q r in_q f h R E =
       let w = within_limited _ r _ f (E.meets.links p q in_p in_q) in
       step_up (a.once (readings R q)) (a.once (readings R p)) _ _ z r (reading R E q in_q) (reading R E p in_p)

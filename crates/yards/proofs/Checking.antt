@@ -1,16 +1,17 @@
 -- The check of a worked yard by a certificate: it gives a proof that the yard is right, or nothing.
-use Rattle.std.proofs.Common.{◌≡◌, ℕ, ◌+◌, ◌-◌, ◌*◌, ◌%◌, ◌<◌, ◌≤◌, List, [], ◌∷◌, ◌++◌, map, length, get_or, drop, ℤ, pos, nat_abs, ◌≤ℤ◌, Some, None, Ok, Err, Option, Result, sym, refl, ap, ◌∙◌, subst, inr, arith}
+use Rattle.std.specs.Prelude.{Some, None}
+use Rattle.std.proofs.Common.{◌≡◌, ℕ, ◌+◌, ◌-◌, ◌*◌, ◌%◌, ◌<◌, ◌≤◌, List, [], ◌∷◌, map, length, get_or, ℤ, pos, nat_abs, ◌≤ℤ◌, Some, None, Ok, Err, Option, Result, refl, ap, inr, arith}
 use Rattle.std.specs.List.{AllByRecursion}
+use Rattle.std.specs.Option.{option_or}
 use Rattle.std.proofs.lemmas.List.{length-replicate}
 use Rattle.chains.specs.Chains.{Different}
-use Rattle.chains.specs.declared.measure.Steps.{Steps}
-use Rattle.chains.specs.declared.measure.Steps.TheVariants.{Limited, Unlimited}
+use Rattle.chains.specs.Measures.{Steps}
 use Rattle.network.specs.Chain.{AddTo}
 use Rattle.yard.specs.declared.edit.Edit.{Edit}
 use Rattle.yard.specs.declared.fault.EntryFault.{EntryFault}
-use Rattle.yard.specs.declared.fault.Layer.{Layer}
-use Rattle.yard.specs.declared.fault.Layer.TheVariants as layer
 use Rattle.yard.specs.declared.fault.Refusal.{Refusal}
+use Rattle.yard.specs.declared.fault.Rule.{Rule}
+use Rattle.yard.specs.declared.fault.Rule.TheVariants as rule
 use Rattle.yard.specs.declared.force.InForce.{InForce}
 use Rattle.yard.specs.declared.force.Run.{Run}
 use Rattle.yard.specs.declared.force.Run.TheVariants.{Feeder, Link}
@@ -29,7 +30,7 @@ use Rattle.placing.specs.declared.answer.Reason.{Reason}
 use Rattle.placing.specs.declared.answer.Reason.TheVariants.{Floor, Fixed, Chain, Clash}
 use Rattle.placing.specs.Steps.{Placed, halves_of, PlaceStep, ToldShort, Because, Reasoned, count_told, WhyStep}
 use Rattle.yards.specs.Table.{WorkedYard, EachTaken, yard_force, written_over, zero_halves, zero_pillars, RightYard}
-use Rattle.yards.proofs.Finding.{◌then◌, or_else, when, same, other, less, no_more, no_higher, each, each_below, first_found, standing}
+use Rattle.yards.proofs.Finding.{◌then◌, when, same, other, less, no_more, no_higher, each, each_below, first_found, standing}
 use Rattle.yards.proofs.Capping.{Way, sums, differences, Capped, eligible, capped}
 
 -- What a check is told: for each pillar a way of tying runs to a mast, and what caps its sum and its difference at the level, a way to a mast or, where
@@ -54,8 +55,8 @@ each_taken F (e ∷ es) = unfaulted (entry_fault F e) then λ h. each_taken (aft
 -- the reaches add up
 abbrev adds_to : (rs : List Steps) (t : ℕ) → Option (AddTo rs t)
 adds_to [] t = same t 0
-adds_to (Limited r ∷ rs) t = adds_to rs (t - r) then λ more. same t (r + (t - r)) then λ e. Some (t - r, more, e)
-adds_to (Unlimited ∷ rs) t = None
+adds_to (Some r ∷ rs) t = adds_to rs (t - r) then λ more. same t (r + (t - r)) then λ e. Some (t - r, more, e)
+adds_to (None ∷ rs) t = None
 
 -- no pillar stands twice
 abbrev different : (ps : List ℕ) → Option (Different ps)
@@ -73,9 +74,8 @@ ends_same of e f = cc
 
 abbrev same_run : (r s : Run) → Option (r ≡ s)
 same_run (Feeder m p) (Feeder n q) = same m n then λ e. same p q then λ f. Some (ends_same Feeder e f)
-same_run (Feeder m p) (Link n q) = None
-same_run (Link m p) (Feeder n q) = None
 same_run (Link m p) (Link n q) = same m n then λ e. same p q then λ f. Some (ends_same Link e f)
+same_run _ _ = None
 
 -- the placing that some halves tell
 abbrev sites_of : List ℤ → Placing
@@ -89,18 +89,15 @@ paired (x ∷ []) = None
 paired (x ∷ y ∷ more) = paired more then λ e. Some (ap (λ (zs : List ℤ). x ∷ y ∷ zs) e)
 
 -- the refusal where limits clash
-abbrev of_placing : (l : Layer) → Option (l ≡ layer.Placing)
-of_placing layer.Memory = None
-of_placing layer.Line = None
-of_placing layer.Frame = None
-of_placing layer.Entry = None
-of_placing layer.Placing = Some refl
+abbrev of_unkept : (r : Rule) → Option (r ≡ rule.Unkept)
+of_unkept rule.Unkept = Some refl
+of_unkept _ = None
 
-pub unkept_told : (n p : ℕ) (l : Layer) → n ≡ 15 → l ≡ layer.Placing → p ≡ 0 → refusal_of l n p ≡ refusal_of layer.Placing 15 0
-unkept_told n p l e f g = cc
+pub unkept_told : (r : Rule) (p : ℕ) → r ≡ rule.Unkept → p ≡ 0 → refusal_of r p ≡ refusal_of rule.Unkept 0
+unkept_told r p e f = cc
 
-abbrev unkept : (r : Refusal) → Option (r ≡ refusal_of layer.Placing 15 0)
-unkept r = same r.number 15 then λ e. of_placing r.layer then λ f. same r.place 0 then λ g. Some (unkept_told r.number r.place r.layer e f g)
+abbrev unkept : (r : Refusal) → Option (r ≡ refusal_of rule.Unkept 0)
+unkept r = of_unkept r.rule then λ e. same r.place 0 then λ f. Some (unkept_told r.rule r.place e f)
 
 module _ (F : InForce) where
   -- a mast stands and no pillar is loose
@@ -151,7 +148,7 @@ module _ (F : InForce) where
   FixedAt L r = (run_terms F r).fixed ≡ L
 
   pub first_here : (L : ℕ) (r s : Run) (rs : List Run) → FixedAt L s → s ≡ r → FirstWith (FixedAt L) (s ∷ rs) r
-  first_here L r s rs h e = record { before = []; after = rs; split = ap (λ (t : Run). t ∷ rs) e; none_before = tt; holds = subst (FixedAt L) e h }
+  first_here L r s rs h e = record { before = []; after = rs; split = ap (λ (t : Run). t ∷ rs) e; none_before = tt; holds = rw (← e) h }
 
   pub first_later : (L : ℕ) (r s : Run) (rs : List Run) → (FixedAt L s → ⊥) → FirstWith (FixedAt L) rs r → FirstWith (FixedAt L) (s ∷ rs) r
   first_later L r s rs h W = record {
@@ -165,7 +162,7 @@ module _ (F : InForce) where
   abbrev first_with : (L : ℕ) (r : Run) (rs : List Run) → Option (FirstWith (FixedAt L) rs r)
   first_with L r [] = None
   first_with L r (s ∷ rs) =
-      or_else (same (run_terms F s).fixed L then λ h. same_run s r then λ e. Some (first_here L r s rs h e))
+      option_or (same (run_terms F s).fixed L then λ h. same_run s r then λ e. Some (first_here L r s rs h e))
       (other (run_terms F s).fixed L then λ h. first_with L r rs then λ W. Some (first_later L r s rs h W))
 
   -- why the level is no lower
@@ -236,11 +233,11 @@ module _ (F : InForce) where
   pub answers_placed : (L : ℕ) (zs : List ℤ) (a : Reason) (ps : List ℕ) → Ready F → Because F L a ps → Placed F L (sites_of zs) →
       halves_of (sites_of zs) ≡ zs → length zs ≡ 2 * F.count → count_told a ≡ length ps → Answers (Ok L) zs a ps
   answers_placed L zs a ps y why d e long told = (
-    (y, enough_room.0, (sites_of zs, d, ap (λ (n : ℕ). zs ++ drop n (zero_halves F)) long ∙ ap (λ (l : List ℤ). l ++ drop (2 * F.count) (zero_halves F)) (sym e))),
+    (y, enough_room.0, (sites_of zs, d, rw (e, long) refl)),
     (y, enough_room.1, (ps, because_least L a ps (record { reached = (sites_of zs, d.sites, d.keeps, d.level_is); none_lower = d.least }) why, told, refl)),
   )
 
-  pub answers_clash : (r : Refusal) (c : ChainTold) (ps : List ℕ) → Ready F → ToldShort F (run_limit F) c ps → r ≡ refusal_of layer.Placing 15 0 →
+  pub answers_clash : (r : Refusal) (c : ChainTold) (ps : List ℕ) → Ready F → ToldShort F (run_limit F) c ps → r ≡ refusal_of rule.Unkept 0 →
       c.count ≡ length ps → Answers (Err r) [] (Clash c) ps
   answers_clash r c ps y S e told =
       ((refl, inr (y, enough_room.0, clash_none F c.from c.to c.gap c.total ps S, e)), (y, enough_room.1, (ps, S, told, refl)))
@@ -251,10 +248,7 @@ module _ (F : InForce) where
       same (count_told a) (length ps) then λ told. Some (answers_placed L zs a ps y why d e long told)
   answers (Err r) [] (Clash k) ps c y =
       too_short (run_limit F) k ps then λ S. unkept r then λ e. same k.count (length ps) then λ told. Some (answers_clash r k ps y S e told)
-  answers (Err r) [] Floor ps c y = None
-  answers (Err r) [] (Fixed s) ps c y = None
-  answers (Err r) [] (Chain k) ps c y = None
-  answers (Err r) (z ∷ zs) a ps c y = None
+  answers (Err r) _ _ ps c y = None
 
 abbrev right : (y : WorkedYard) → Certificate → Option (RightYard y)
 right y c =
@@ -264,6 +258,5 @@ right y c =
 -- each yard of a table by its certificate
 abbrev pub each_right : (ys : List WorkedYard) → List Certificate → Option (AllByRecursion RightYard ys)
 each_right [] [] = Some tt
-each_right [] (c ∷ cs) = None
-each_right (y ∷ ys) [] = None
 each_right (y ∷ ys) (c ∷ cs) = right y c then λ h. each_right ys cs then λ more. Some (h, more)
+each_right _ _ = None

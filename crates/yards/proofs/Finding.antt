@@ -1,9 +1,10 @@
 -- Tests that give a proof of what they test, or nothing.
-use Rattle.std.proofs.Common.{◌≡◌, ℕ, zero, suc, ◌<◌, ◌≤◌, Bool, true, false, not, T, eqb, ltb, leb, List, [], ◌∷◌, ℤ, ◌≤ℤ◌, is_some, Some, None, Option, sym, refl, subst, ⊎_elim, arith}
+use Rattle.std.specs.Prelude.{Some, None}
+use Rattle.std.proofs.Common.{◌≡◌, ℕ, zero, suc, ◌<◌, ◌≤◌, Bool, true, false, not, eqb, ltb, leb, List, [], ◌∷◌, ℤ, ◌≤ℤ◌, is_some, Some, None, Option, sym, refl, ⊎_elim, arith}
 use lib.Signed.{le_z, le_z_yes}
 use Rattle.std.specs.List.{AllByRecursion}
-use Rattle.chains.specs.declared.measure.Steps.{Steps}
-use Rattle.chains.specs.declared.measure.Steps.TheVariants.{Limited, Unlimited}
+use Rattle.std.specs.Option.{option_and_then, option_or}
+use Rattle.chains.specs.Measures.{Steps}
 use Rattle.yard.specs.declared.force.InForce.{InForce}
 use Rattle.runs.specs.Spots.{Spot, StandsAt, mast_spot}
 use Rattle.std.proofs.lemmas.Bool.{true≢false, not-true, ltb-true, leb-true, eqb-true, eqb-false, cases_eq}
@@ -15,12 +16,7 @@ found None e = absurd (true≢false (sym e))
 -- one test after another
 infixr 20 ◌then◌
 abbrev pub ◌then◌ : {P Q : Type 0} → Option P → (P → Option Q) → Option Q
-Some p then more = more p
-None then more = None
-
-abbrev pub or_else : {P : Type 0} → Option P → Option P → Option P
-or_else (Some p) o = Some p
-or_else None o = o
+o then more = option_and_then more o
 
 abbrev pub when : {P : Type 0} (b : Bool) → (b ≡ true → P) → Option P
 when true p = Some (p refl)
@@ -39,7 +35,7 @@ abbrev pub no_more : (m n : ℕ) → Option (m ≤ n)
 no_more m n = when (leb m n) (leb-true m n)
 
 abbrev pub no_higher : (a b : ℤ) → Option (a ≤ℤ b)
-no_higher a b = when (le_z a b) (λ e. le_z_yes (subst T (sym e) tt))
+no_higher a b = when (le_z a b) (λ e. le_z_yes (rw e tt))
 
 -- a test of each entry of a list, of each number below n, and of the entries until one passes
 abbrev pub each : {X : Type 0} (P : X → Type 0) → ((x : X) → Option (P x)) → (xs : List X) → Option (AllByRecursion P xs)
@@ -47,7 +43,7 @@ each P test [] = Some tt
 each P test (x ∷ xs) = test x then λ p. each P test xs then λ ps. Some (p, ps)
 
 pub one_more : (P : ℕ → Type 0) (n : ℕ) → ((k : ℕ) → k < n → P k) → P n → (k : ℕ) → k < suc n → P k
-one_more P n before here k h = ⊎_elim (λ e. subst P (sym e) here) (λ d. before k (omega arith)) (cases_eq k n)
+one_more P n before here k h = ⊎_elim (λ e. rw e here) (λ d. before k (omega arith)) (cases_eq k n)
 
 pub none_below : (P : ℕ → Type 0) (k : ℕ) → k < 0 → P k
 none_below P k h = absurd (omega arith)
@@ -58,7 +54,7 @@ each_below P test (suc n) = each_below P test n then λ before. test n then λ h
 
 abbrev pub first_found : {X P : Type 0} → (X → Option P) → List X → Option P
 first_found test [] = None
-first_found test (x ∷ xs) = or_else (test x) (first_found test xs)
+first_found test (x ∷ xs) = option_or (test x) (first_found test xs)
 
 -- where a mast stands, and how far a run goes
 abbrev spot_found : (o : Option Spot) → Option ((s : Spot) × (o ≡ Some s))
@@ -68,6 +64,6 @@ spot_found None = None
 abbrev pub standing : (F : InForce) (m : ℕ) → Option ((s : Spot) × StandsAt F m s)
 standing F m = spot_found (mast_spot F m)
 
-abbrev pub limited_to : (s : Steps) → Option ((r : ℕ) × (s ≡ Limited r))
-limited_to (Limited r) = Some (r, refl)
-limited_to Unlimited = None
+abbrev pub limited_to : (s : Steps) → Option ((r : ℕ) × (s ≡ Some r))
+limited_to (Some r) = Some (r, refl)
+limited_to None = None

@@ -7,7 +7,7 @@ use Rattle.yard.specs.declared.edit.Edit.TheVariants.{Open, Raise, Feeder, Link}
 use Rattle.yard.specs.declared.force.InForce.{InForce}
 use Rattle.yard.specs.declared.force.Run.TheVariants as run
 use Rattle.yard.specs.declared.fault.Refusal.{Refusal}
-use Rattle.yard.specs.declared.fault.Layer.TheVariants as layer
+use Rattle.yard.specs.declared.fault.Rule.TheVariants as rule
 use Rattle.yard.specs.Force.{opened_at}
 use Rattle.yard.specs.Rows.{refusal_of}
 use Rattle.yard.specs.Edits.{answered, after_edit}
@@ -90,7 +90,7 @@ four_corners = record {
 abbrev pub clashing_limits : WorkedYard
 clashing_limits = record {
   edits = Open 1 ∷ Raise 0 (pos 0) (pos 0) ∷ Raise 1 (pos 10) (pos 0) ∷ Feeder 0 0 (limit_terms 4) ∷ Feeder 1 0 (limit_terms 5) ∷ [];
-  place = Err (refusal_of layer.Placing 15 0);
+  place = Err (refusal_of rule.Unkept 0);
   halves = [];
   reason = Clash (told_chain 0 1 10 9 1);
   pillars = 0 ∷ [];

@@ -1,56 +1,26 @@
 // The five edits of a plan. A refused edit leaves the plan as it was.
 
-ghost use Rattle.std.specs.Prelude.{◌≡◌, ◌<◌, length, slice_set};
+ghost use Rattle.std.specs.Prelude.{◌≡◌, length};
 ghost use Rattle.yard.specs.Force.{opened_at, point_of, terms_of};
 ghost use Rattle.yard.specs.Edits.{answered, after_edit, kept_terms};
-ghost use Rattle.yard.specs.Offers.{Offered};
+ghost use Rattle.yard.specs.Offers.{Slot, Standing, Listed};
 ghost use Rattle.yard.specs.declared.edit.Edit.TheVariants.{Open as opening, Raise as raising, Strike as striking, Feeder as feeding, Link as linking};
 
-use crate::edit::{Edit, EntryTerms, NO_LIMIT};
+use crate::edit::{Edit, EntryTerms};
 use crate::fault::{EntryFault, EntryRow};
-use crate::force::{InForce, Mast, NEW_TERMS, Point, Run, Terms};
+use crate::force::{InForce, Mast, NEW_TERMS, PILLARS, Point, Run, Terms};
 use crate::plan::Plan;
 
-// The terms that an edit states, if they are in range.
-fn offered(terms: EntryTerms) -> Result<Terms, EntryFault>
-    ensures { Offered terms result }
+// The mast at a new place: one that is moved keeps its terms, a new one has new terms.
+fn placed(standing: Option<Mast>, at: Point) -> Mast
+    ensures at { result.at ≡ at }
+    ensures feeders { result.feeders ≡ kept_terms standing }
 {
-    if terms.rate > 10_000 {
-        return Err(EntryRow::TermRange.at(3));
-    }
-    if terms.fixed > 1_000_000_000 {
-        return Err(EntryRow::TermRange.at(5));
-    }
-    let limit = match terms.limit {
-        NO_LIMIT => None,
-        0..=200_000 => Some(terms.limit),
-        _ => return Err(EntryRow::TermRange.at(9)),
+    let new = Mast {
+        at,
+        feeders: [NEW_TERMS; PILLARS],
     };
-    Ok(Terms {
-        rate: terms.rate,
-        fixed: terms.fixed,
-        limit,
-    })
-}
-
-// A mast that is moved keeps its terms; a new one has new terms.
-fn kept(standing: Option<Mast>) -> [Terms; 12]
-    ensures { result ≡ kept_terms standing }
-{
-    match standing {
-        Some(moved) => moved.feeders,
-        None => [NEW_TERMS; 12],
-    }
-}
-
-// The mast with other terms to a pillar.
-fn refed(mut standing: Mast, pillar: u8, terms: Terms) -> Mast
-    requires { pillar < 12 }
-    ensures at { result.at ≡ standing.at }
-    ensures feeders { result.feeders ≡ slice_set standing.feeders pillar terms }
-{
-    standing.feeders[pillar as usize] = terms;
-    standing
+    standing.map_or(new, |moved| Mast { at, ..moved })
 }
 
 impl Plan {
@@ -70,17 +40,36 @@ impl Plan {
         self.force.count
     }
 
+    // What stands under a mast's number.
+    fn slot(&self, mast: u8) -> Result<Option<Mast>, EntryFault>
+        ensures { Slot self.now.force mast result }
+    {
+        let slot = self.force.masts.get(mast as usize);
+        slot.copied().ok_or(EntryRow::MastNumber.at(1))
+    }
+
+    // The standing mast of a number.
+    fn standing(&self, mast: u8) -> Result<Mast, EntryFault>
+        ensures { Standing self.now.force mast result }
+    {
+        self.slot(mast)?.ok_or(EntryRow::NotStanding.at(1))
+    }
+
+    // Refuses a pillar that the plan does not have, by the field that names it.
+    fn listed(&self, pillar: u8, field: u8) -> Result<(), EntryFault>
+        ensures { Listed self.now.force pillar field result }
+    {
+        if pillar >= self.force.count {
+            return Err(EntryRow::NoPillar.at(field));
+        }
+        Ok(())
+    }
+
     // Where a mast stands, if it does.
     pub fn mast(&self, number: u8) -> Option<Point>
         ensures { result ≡ point_of self.now.force number }
     {
-        if number > 39 {
-            return None;
-        }
-        match self.force.masts[number as usize] {
-            Some(standing) => Some(standing.at),
-            None => None,
-        }
+        self.standing(number).ok().map(|standing| standing.at)
     }
 
     // The masts by number.
@@ -92,7 +81,7 @@ impl Plan {
     }
 
     // The terms of the links: a row for each pillar, with a link in the row of its lower pillar.
-    pub fn links(&self) -> &[[Terms; 12]]
+    pub fn links(&self) -> &[[Terms; PILLARS]]
         ensures links { result.now ≡ self.now.force.links }
         ensures many { length result.now ≡ 12 }
     {
@@ -104,26 +93,14 @@ impl Plan {
         ensures { result ≡ terms_of self.now.force run }
     {
         match run {
-            Run::Feeder { mast, pillar } => {
-                if mast > 39 {
-                    return None;
-                }
-                if pillar >= self.force.count {
-                    return None;
-                }
-                let Some(standing) = self.force.masts[mast as usize] else {
-                    return None;
-                };
+            Run::Feeder { mast, pillar } if pillar < self.force.count => {
+                let standing = self.standing(mast).ok()?;
                 Some(standing.feeders[pillar as usize])
             }
-            Run::Link { one, other } => {
-                let low = one.min(other);
-                let high = one.max(other);
-                if high >= self.force.count || low == high {
-                    return None;
-                }
-                Some(self.force.links[low as usize][high as usize])
+            Run::Link { one, other } if one != other && one.max(other) < self.force.count => {
+                Some(self.force.links[one.min(other) as usize][one.max(other) as usize])
             }
+            Run::Feeder { .. } | Run::Link { .. } => None,
         }
     }
 
@@ -132,7 +109,7 @@ impl Plan {
         ensures answer { result ≡ answered self.old.force (opening count) }
         ensures after { self.new.force ≡ after_edit self.old.force (opening count) }
     {
-        if count == 0 || count > 12 {
+        if count == 0 || count as usize > PILLARS {
             return Err(EntryRow::PillarCount.at(1));
         }
         self.force = InForce::opened(count);
@@ -144,18 +121,14 @@ impl Plan {
         ensures answer { result ≡ answered self.old.force (raising mast x y) }
         ensures after { self.new.force ≡ after_edit self.old.force (raising mast x y) }
     {
-        if mast > 39 {
-            return Err(EntryRow::MastNumber.at(1));
-        }
+        let standing = self.slot(mast)?;
         if x.unsigned_abs() > 50_000 {
             return Err(EntryRow::OffGrid.at(2));
         }
         if y.unsigned_abs() > 50_000 {
             return Err(EntryRow::OffGrid.at(6));
         }
-        let feeders = kept(self.force.masts[mast as usize]);
-        let at = Point { x, y };
-        self.force.masts[mast as usize] = Some(Mast { at, feeders });
+        self.force.masts[mast as usize] = Some(placed(standing, Point { x, y }));
         Ok(())
     }
 
@@ -164,12 +137,7 @@ impl Plan {
         ensures answer { result ≡ answered self.old.force (striking mast) }
         ensures after { self.new.force ≡ after_edit self.old.force (striking mast) }
     {
-        if mast > 39 {
-            return Err(EntryRow::MastNumber.at(1));
-        }
-        let Some(_) = self.force.masts[mast as usize] else {
-            return Err(EntryRow::NotStanding.at(1));
-        };
+        self.standing(mast)?;
         self.force.masts[mast as usize] = None;
         Ok(())
     }
@@ -179,18 +147,10 @@ impl Plan {
         ensures answer { result ≡ answered self.old.force (feeding mast pillar terms) }
         ensures after { self.new.force ≡ after_edit self.old.force (feeding mast pillar terms) }
     {
-        if mast > 39 {
-            return Err(EntryRow::MastNumber.at(1));
-        }
-        let found = self.force.masts[mast as usize];
-        let Some(standing) = found else {
-            return Err(EntryRow::NotStanding.at(1));
-        };
-        if pillar >= self.force.count {
-            return Err(EntryRow::NoPillar.at(2));
-        }
-        let terms = offered(terms)?;
-        self.force.masts[mast as usize] = Some(refed(standing, pillar, terms));
+        let standing = self.standing(mast)?;
+        self.listed(pillar, 2)?;
+        let terms = Terms::try_from(terms)?;
+        self.force.masts[mast as usize] = Some(standing.refed(pillar, terms));
         Ok(())
     }
 
@@ -199,16 +159,12 @@ impl Plan {
         ensures answer { result ≡ answered self.old.force (linking one other terms) }
         ensures after { self.new.force ≡ after_edit self.old.force (linking one other terms) }
     {
-        if one >= self.force.count {
-            return Err(EntryRow::NoPillar.at(1));
-        }
-        if other >= self.force.count {
-            return Err(EntryRow::NoPillar.at(2));
-        }
+        self.listed(one, 1)?;
+        self.listed(other, 2)?;
         if one == other {
             return Err(EntryRow::SelfLink.at(2));
         }
-        let terms = offered(terms)?;
+        let terms = Terms::try_from(terms)?;
         self.force.links[one.min(other) as usize][one.max(other) as usize] = terms;
         Ok(())
     }

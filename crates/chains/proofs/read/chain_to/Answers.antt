@@ -1,33 +1,23 @@
-use Rattle.std.proofs.Common.{length, refl, arith, length-set}
-use Rattle.chains.specs.Chains.{pillar_at}
-use Rattle.chains.proofs.Reading.{no_room, writing_start, writing_more, writing_end}
+use Rattle.std.proofs.Common.{◌≡◌, ◌∙◌, [], ◌∷◌, length, reverse, ap, length-append, arith}
+use Rattle.std.proofs.lemmas.List.{length-reverse}
+use Rattle.arrayvec.proofs.ArrayVecLemmas.{items-with_items}
+use Rattle.chains.proofs.Reading.{when_ok, walk_more, walk_ends}
 use Rattle.chains.proofs.read.chain_to.Goals as goal
 
-pub returns-then-out-count : goal.returns-then-out-count
-returns-then-out-count c =
-    let b = c.args.before.now in
-    let t = c.in-Some.ensures in
-    (no_room (length b) (pillar_at b) c.args.v c.in-Some.count c.args.out.now t.0 t.1 t.2 (omega arith), refl)
-
-pub loop-at-init : goal.loop-at-init
-loop-at-init c =
-    let b = c.args.before.now in
-    let t = c.in-Some.ensures in
-    (omega arith, writing_start (length b) (pillar_at b) c.args.v c.in-Some.count c.args.out.now t.0 t.1 t.2 (omega arith))
-
-pub loop-at-preserved : goal.loop-at-preserved
-loop-at-preserved c =
-    let b = c.args.before.now in
-    (simp length-set c.loop-at.invariant.0, writing_more (length b) (pillar_at b) c.args.v c.in-Some.count c.args.out.now c.loop-at.p c.loop-at.at c.loop-at.out c.loop-at.invariant.1 c.loop-at-test.true c.loop-at.auto.at c.loop-at.invariant.0)
-
-pub returns : goal.returns
-returns c =
-    let b = c.args.before.now in
-    let t = c.in-Some.ensures in
+pub loop-preserved : goal.loop-preserved
+loop-preserved g c =
+    let here = c.in_ok-next.ensures.lookup in
+    let pushed = when_ok c.try_push.result c.in_ok-ok.ensures.variant c.try_push.ensures.ok in
     record {
-      passed = t.0;
-      traced = t.1;
-      long = t.2;
-      room = omega arith;
-      written = writing_end (length b) (pillar_at b) c.args.v c.in-Some.count c.args.out.now c.loop-at.p c.loop-at.at c.loop-at.out c.loop-at.invariant.1 (omega arith) t.0 t.1.told;
+      walk = rw (pushed, here.3.1 0) (walk_more c.loop.invariant.walk here.3.0 (rw (← here.3.1 0) c.if-next-p.false));
+      long = rw pushed (omega (arith, length-append c.loop.pillars.items (c.loop.p ∷ [])));
     }
+
+pub returns-then-next-p : goal.returns-then-next-p
+returns-then-next-p g c =
+    let here = c.in_ok-next.ensures.lookup in
+    let pushed = when_ok c.try_push.result c.in_ok-ok.ensures.variant c.try_push.ensures.ok in
+    let e = walk_ends c.loop.invariant.walk here.3.0 (rw (← here.3.1 0) c.if-next-p.true) (omega arith) in
+    let turned : c.reverse.new.self ≡ reverse c.try_push.new.self.items = c.reverse.ensures.after ∙ ap reverse c.deref_mut.ensures.value in
+    let long : length c.reverse.new.self ≡ length c.try_push.new.self.items = ap length turned ∙ length-reverse c.try_push.new.self.items in
+    rw (items-with_items c.try_push.new.self c.reverse.new.self long) (record { passed = e.0; traced = e.1; told = turned ∙ ap reverse (pushed ∙ e.2) }, omega arith)

@@ -1,10 +1,9 @@
-use Rattle.chains.specs.Marked.{marks_of}
 use Rattle.chains.proofs.Open.{open_in}
 use Rattle.chains.proofs.Tables.{Tables}
 use Rattle.chains.proofs.search.search.Given as goal
 
 abbrev pub invariant-loop-u : goal.invariant-loop-u
-invariant-loop-u g l = let m = g.M.Measure in Tables m.empty m.op m.leq l.first l.runs l.best l.before (marks_of l.marks)
+invariant-loop-u g l = let m = g.M.Measure in Tables m.empty m.op m.leq l.first l.runs l.best l.before l.marks.done
 
 abbrev pub decreases-loop-u : goal.decreases-loop-u
-decreases-loop-u g l = open_in (marks_of l.marks)
+decreases-loop-u g l = open_in l.marks.done

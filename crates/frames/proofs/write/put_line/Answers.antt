@@ -1,15 +1,9 @@
-use Rattle.std.proofs.Common.{◌∷◌, ◌++◌, refl, ◌∙◌, rules}
-use Rattle.frames.specs.Fields.{spelled}
-use Rattle.frames.proofs.Lined.{too_long, no_space, written}
+use Rattle.std.proofs.Common.{◌<◌, length, arith}
+use Rattle.std.proofs.lemmas.Grind.{common_steps}
+use Rattle.frames.proofs.Framing.{too_long}
 use Rattle.frames.proofs.write.put_line.Goals as goal
 
-pub returns-in_default : goal.returns-in_default
-returns-in_default c = too_long (c.args.kind ∷ (spelled c.args.fields.now ++ c.args.more.now)) _ _ c.in_default.ensures refl
-
-pub returns-then-out-count : goal.returns-then-out-count
-returns-then-out-count c =
-    no_space (c.args.kind ∷ (spelled c.args.fields.now ++ c.args.more.now)) _ _ c.as_slice-bytes.result.now (c.as_slice-bytes.ensures ∙ c.in-Ok.ensures) (search rules) refl
-
-pub returns : goal.returns
-returns c =
-    written (c.args.kind ∷ (spelled c.args.fields.now ++ c.args.more.now)) _ _ c.as_slice-bytes.result.now (c.as_slice-bytes.ensures ∙ c.in-Ok.ensures) (search rules) (search rules) c.put_digits.ensures
+pub returns-in_err-ok : goal.returns-in_err-ok
+returns-in_err-ok c =
+    let full : 31 < length c.args.bytes.items = grind (arith, common_steps) in
+    rw c.from_residual.ensures (too_long c.args.bytes.items c.args.out.now full)

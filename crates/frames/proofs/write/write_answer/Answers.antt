@@ -1,9 +1,9 @@
+use Rattle.std.proofs.Common.{◌<◌, length, arith}
 use Rattle.frames.specs.Frames.{answer_bytes}
-use Rattle.frames.proofs.Lined.{known}
+use Rattle.frames.proofs.Framing.{too_long}
 use Rattle.frames.proofs.write.write_answer.Goals as goal
 
-pub returns-in-Chain : goal.returns-in-Chain
-returns-in-Chain c = known answer_bytes _ _ _ _ _ c.in-Chain.is c.put_told.ensures
-
-pub returns-in-Clash : goal.returns-in-Clash
-returns-in-Clash c = known answer_bytes _ _ _ _ _ c.in-Clash.is c.put_told-in-Clash.ensures
+pub returns-in_err-answer_bytes : goal.returns-in_err-answer_bytes
+returns-in_err-answer_bytes c =
+    let over : 31 < length (answer_bytes c.args.answer) = omega (arith, c.in_err-answer_bytes.ensures) in
+    rw c.from_residual.ensures (too_long (answer_bytes c.args.answer) c.args.out.now over)

@@ -5,7 +5,7 @@ use Rattle.placing.proofs.chain.paying_level.Given as goal
 -- the chain is short at the one level, and not at the other
 abbrev pub invariant-loop-short : goal.invariant-loop-short
 invariant-loop-short l =
-    (l.low ≤ l.short) × (l.short < l.high) × (l.high ≤ 3000000000) × ShortAt l.terms l.gap l.short l.total × LongAt l.terms l.gap l.high
+    (l.fn.low.cents ≤ l.short) × (l.short < l.high) × (l.high ≤ 3000000000) × ShortAt l.terms l.gap l.short l.total × LongAt l.terms l.gap l.high
 
 abbrev pub decreases-loop-short : goal.decreases-loop-short
 decreases-loop-short l = l.high - l.short

@@ -1,22 +1,12 @@
 use Rattle.std.proofs.Common.{arith}
-use Rattle.placing.proofs.Summing.{sums_more, sums_never, sums_past, sums_all}
+use Rattle.placing.proofs.Summing.{sums_more, sums_all}
 use Rattle.placing.proofs.chain.short_at.Goals as goal
-
-pub returns-in_default : goal.returns-in_default
-returns-in_default c =
-    sums_never c.args.terms.now c.args.level c.loop-run.total c.loop-run.run-index c.loop-run.invariant.1 _ c.loop-run-test.true c.args.gap
-    c.in_default.ensures.reach
-
-pub returns-then-steps-gap : goal.returns-then-steps-gap
-returns-then-steps-gap c =
-    sums_past c.args.terms.now c.args.level c.loop-run.total c.loop-run.run-index c.loop-run.invariant.1 _ c.loop-run-test.true c.args.gap
-    c.in-Limited.steps c.in-Limited.ensures.reach c.if-steps-gap.true
 
 pub loop-run-preserved : goal.loop-run-preserved
 loop-run-preserved c = (
   omega (arith, c.loop-run.invariant.0),
   sums_more c.args.terms.now c.args.level c.loop-run.total c.loop-run.run-index c.loop-run.invariant.1 _ c.loop-run-test.true
-      c.in-Limited.steps c.in-Limited.ensures.reach,
+      c.in_ok-steps.steps c.in_ok-steps.ensures.reach,
 )
 
 pub returns-then-total-gap : goal.returns-then-total-gap

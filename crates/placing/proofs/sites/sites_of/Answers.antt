@@ -1,29 +1,16 @@
-use Rattle.std.proofs.Common.{◌<◌, length, refl, ◌∙◌, arith, length-set, w32, SFits, rules}
-use Rattle.std.proofs.lemmas.Int.{to_z-of_z}
-use Rattle.network.specs.Networks.{position_in}
-use Rattle.placing.proofs.Sited.{near_enough, sited_more}
+use Rattle.std.proofs.Common.{◌<◌, length, ℤ, pos, rules}
+use Rattle.std.proofs.lemmas.List.{get_or-map}
+use Rattle.network.specs.Tables.{Near}
+use Rattle.yard.specs.Grid.{IsReading}
+use Rattle.yard.specs.declared.site.Site.{Site}
+use Rattle.runs.specs.Spots.{origin}
+use Rattle.runs.specs.Dearest.{site_spot}
+use Rattle.runs.proofs.Filling.{mapped_each}
 use Rattle.placing.proofs.sites.sites_of.Goals as goal
 
-pub loop-p-init : goal.loop-p-init
-loop-p-init c = (refl, λ k h. absurd (omega arith))
-
-pub unreachable-requires-in_default-with_reading : goal.unreachable-requires-in_default-with_reading
-unreachable-requires-in_default-with_reading c =
-    let at = position_in c.args.positions.now c.loop-p.p in
-    let f : SFits w32 at.0 = search rules in
-    let g : SFits w32 at.1 = search rules in
-    let near = c.requires.1 c.loop-p.p c.loop-p-test.true in
-    simp to_z-of_z at c.in_default-with_reading.ensures (near_enough at.0 at.1 near.0 near.1)
-
-pub loop-p-preserved : goal.loop-p-preserved
-loop-p-preserved c =
-    let p = c.loop-p.p in
-    let at = position_in c.args.positions.now p in
-    let f : SFits w32 at.0 = search rules in
-    let g : SFits w32 at.1 = search rules in
-    let h : p < length c.loop-p.sites = search rules in
-    let read = simp to_z-of_z at c.in-Some-with_reading.ensures in
-    (length-set c.loop-p.sites p c.in-Some-with_reading.site ∙ c.loop-p.invariant.0, sited_more (position_in c.args.positions.now) c.loop-p.sites p c.in-Some-with_reading.site h c.loop-p.invariant.1 read)
-
 pub returns : goal.returns
-returns c j h = c.loop-p.invariant.1 j (omega (arith, c.loop-p-test.false))
+returns c j h near =
+    let sites = c.map.result in
+    let long : j < length sites = search rules in
+    let read = mapped_each _ (λ (r : ℤ × ℤ) (s : Site). Near r → IsReading s.hx s.hy r) _ _ _ (λ r s q k. (search rules, λ n. search (rules, k.met.0))) 12 c.map.ensures.items j (pos 0, pos 0) c.in-Some.origin h near in
+    rw (get_or-map site_spot sites j c.in-Some.origin origin long) read

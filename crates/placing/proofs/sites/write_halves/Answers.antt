@@ -1,13 +1,7 @@
-use Rattle.std.proofs.Common.{◌≡◌, ◌*◌, ◌++◌, length, drop, refl, ap, ◌∙◌, arith, w32, SFits, to_z, of_z, rules}
-use Rattle.std.proofs.lemmas.List.{take_all}
+use Rattle.std.proofs.Common.{◌≡◌, ap, ◌∙◌, w32, SFits, to_z, of_z, rules}
 use Rattle.std.proofs.lemmas.Int.{to_z-of_z}
-use Rattle.runs.specs.Dearest.{spots_of}
-use Rattle.placing.specs.Steps.{halves_of}
 use Rattle.placing.proofs.Sited.{halves_more}
 use Rattle.placing.proofs.sites.write_halves.Goals as goal
-
-pub loop-p-init : goal.loop-p-init
-loop-p-init c = refl
 
 pub loop-p-preserved : goal.loop-p-preserved
 loop-p-preserved c =
@@ -18,10 +12,3 @@ loop-p-preserved c =
     let x : to_z w32 (of_z w32 both.0) ≡ s.hx = to_z-of_z w32 both.0 f ∙ ap (λ h. h.0) c.halves-hx.ensures in
     let y : to_z w32 (of_z w32 both.1) ≡ s.hy = to_z-of_z w32 both.1 g ∙ ap (λ h. h.1) c.halves-hx.ensures in
     rw (x, y) (halves_more c.args.sites.now c.args.list.now c.loop-p.list c.loop-p.p s c.loop-p-test.true c.index-sites-p.is c.requires c.loop-p.invariant)
-
-pub returns : goal.returns
-returns c =
-    let sites = c.args.sites.now in
-    let all : c.loop-p.p ≡ length sites = omega arith in
-    c.loop-p.invariant ∙ ap (λ l. halves_of (spots_of l) ++ drop (2 * c.loop-p.p) c.args.list.now) (take_all c.loop-p.p sites c.loop-p-test.false)
-    ∙ ap (λ n. halves_of (spots_of sites) ++ drop (2 * n) c.args.list.now) all

@@ -1,6 +1,8 @@
-use Rattle.std.proofs.Common.{rules}
-use Rattle.yard.proofs.Ranges.{opened_facts}
+use Rattle.yard.proofs.Ranges.{opened_near, opened_feeders}
 use Rattle.yard.proofs.plan.Plan.new.Goals as goal
 
-pub invariant_of-result : goal.invariant_of-result
-invariant_of-result c = opened_facts c.opened.result 1 c.opened.ensures (search rules) (search rules)
+pub invariant_of-result-clause-near : goal.invariant_of-result-clause-near
+invariant_of-result-clause-near c = rw c.opened.ensures (opened_near 1)
+
+pub invariant_of-result-clause-feeders : goal.invariant_of-result-clause-feeders
+invariant_of-result-clause-feeders c = rw c.opened.ensures (opened_feeders 1)

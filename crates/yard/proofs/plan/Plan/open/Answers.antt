@@ -1,6 +1,8 @@
-use Rattle.std.proofs.Common.{rules}
-use Rattle.yard.proofs.Ranges.{opened_facts}
+use Rattle.yard.proofs.Ranges.{opened_near, opened_feeders}
 use Rattle.yard.proofs.plan.Plan.open.Goals as goal
 
-pub invariant_of-self : goal.invariant_of-self
-invariant_of-self c = opened_facts c.opened-self.result c.args.count c.opened-self.ensures (search rules) (search rules)
+pub invariant_of-self-clause-near : goal.invariant_of-self-clause-near
+invariant_of-self-clause-near c = rw c.opened-self.ensures (opened_near c.args.count)
+
+pub invariant_of-self-clause-feeders : goal.invariant_of-self-clause-feeders
+invariant_of-self-clause-feeders c = rw c.opened-self.ensures (opened_feeders c.args.count)

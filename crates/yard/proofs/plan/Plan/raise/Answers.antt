@@ -1,11 +1,14 @@
-use Rattle.std.proofs.Common.{refl, rules}
-use Rattle.yard.specs.Force.{mast_at}
-use Rattle.yard.proofs.Ranges.{mast_facts, kept_fair}
+use Rattle.std.proofs.Common.{rules}
+use Rattle.yard.proofs.Ranges.{near_set, feeders_set, kept_fair}
 use Rattle.yard.proofs.plan.Plan.raise.Goals as goal
 
-pub invariant_of-self : goal.invariant_of-self
-invariant_of-self c =
+pub invariant_of-self-clause-near : goal.invariant_of-self-clause-near
+invariant_of-self-clause-near c =
     let was = c.args.self.now in
-    mast_facts was.force _ c.args.mast _ refl (search rules)
-    (rw c.kept-feeders.ensures (kept_fair (mast_at was.force c.args.mast) (was.feeders c.args.mast)))
-    (record { counted = was.counted; near = was.near; feeders = was.feeders; links = was.links })
+    near_set was.force.masts c.args.mast c.placed.result (rw c.placed.ensures.at (search rules)) was.near
+
+pub invariant_of-self-clause-feeders : goal.invariant_of-self-clause-feeders
+invariant_of-self-clause-feeders c =
+    let was = c.args.self.now in
+    let old = rw c.in_ok-standing.ensures.1 at (was.feeders c.args.mast) in
+    feeders_set was.force.masts c.args.mast c.placed.result (rw c.placed.ensures.feeders (kept_fair c.in_ok-standing.standing old)) was.feeders

@@ -1,6 +1,0 @@
-use Rattle.std.proofs.Common.{rules}
-use Rattle.frames.proofs.Spread.{spread}
-use Rattle.frames.proofs.decode.strike.Goals as goal
-
-pub returns : goal.returns
-returns c = record { bytes = let all = spread 1 c.args.fields.now c.requires in cc; fits = search rules }

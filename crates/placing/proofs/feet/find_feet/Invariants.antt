@@ -1,5 +1,0 @@
-use Rattle.placing.proofs.FeetFound.{Seen}
-use Rattle.placing.proofs.feet.find_feet.Given as goal
-
-abbrev pub invariant-loop-m : goal.invariant-loop-m
-invariant-loop-m l = Seen l.plan.force l.m l.found
