@@ -3,8 +3,7 @@ use Rattle.std.specs.Prelude.{◌≡◌, true, ◌⊎◌, refl, Some, None}
 use Rattle.std.proofs.Common.{inl, inr, arith}
 use Rattle.std.proofs.lemmas.Bool.Decides.{nat_tests}
 use Rattle.chains.specs.Laws.{Laws}
-use Rattle.chains.specs.Measures.{no_steps, add_steps, fewer}
-use Rattle.chains.specs.Measures.{Steps}
+use Rattle.chains.specs.Measures.{no_steps, add_steps, fewer, Steps}
 
 left : (x : Steps) → add_steps no_steps x ≡ x
 left (Some a) = grind (arith, nat_tests)

@@ -5,7 +5,7 @@ ghost use Rattle.chains.specs.Marked.{Finished, BestUnfinished};
 
 use crate::measure::Measure;
 
-// What stands behind the last pillar is finished from the start.
+// Whether each pillar is finished; the entries behind the last pillar are, from the start.
 #[derive(Drop)]
 pub(crate) struct Marks {
     done: [bool; 12],
@@ -30,7 +30,7 @@ impl Marks {
         self.done[p] = true;
     }
 
-    // The best of the pillars that are not finished, or none where all are.
+    // The best of the pillars that are not finished, or none where all are. (A zip with the values was tried, with a filter and a reduce: the proof did not close.)
     pub(crate) fn nearest<M: Measure>(&self, best: &[M; 12]) -> Option<usize>
         ensures { MatchOption result ((k : ℕ) → k < 12 → Finished self.now.done k) (λ u. BestUnfinished M.leq self.now.done 12 (value_at M.empty best.now) u) }
     {

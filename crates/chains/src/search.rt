@@ -21,7 +21,7 @@ fn enter<M: Measure>(first: &[M], best: &mut [M; 12], before: &mut [u8; 12])
 }
 
 // Offers each pillar the chain that goes on from the pillar u, where it has the value `from`, by the run in `row`.
-// A pillar takes it where that is better than the best chain to it so far. By numbers and not a zip (tried): of what an `iter_mut` inside an adapter writes a proof learns nothing.
+// A pillar takes it where that is better than the best chain to it so far. By numbers and not a zip (tried): what an `iter_mut` inside an adapter writes is not known to the proof.
 fn offer<M: Measure>(u: u8, from: M, row: &[M; 12], best: &mut [M; 12], before: &mut [u8; 12])
     ensures best { (v : ℕ) → v < 12 → value_at M.empty best.new v ≡ (if M.leq (value_at M.empty best.old v) (M.op from (value_at M.empty row.now v)) then value_at M.empty best.old v else M.op from (value_at M.empty row.now v)) }
     ensures before { (v : ℕ) → v < 12 → pillar_at before.new v ≡ (if M.leq (value_at M.empty best.old v) (M.op from (value_at M.empty row.now v)) then pillar_at before.old v else u) }
@@ -35,7 +35,7 @@ fn offer<M: Measure>(u: u8, from: M, row: &[M; 12], best: &mut [M; 12], before: 
     }
 }
 
-// The search itself, for the two that are public.
+// The search itself, for the two that are public. (Their two tables are looked at here alone: a struct of both would be no plainer.)
 pub(crate) fn search<M: Measure>(
     first: &[M],
     runs: &[[M; 12]],
@@ -58,8 +58,8 @@ pub(crate) fn search<M: Measure>(
 }
 
 // The best chains to the pillars of a plan: the value of each, and the pillar before its last one, or the last one itself where the chain begins there.
-// What stands behind the last pillar says nothing.
-// Two arrays, here and in the search, and not one of pairs (tried): `best_chain_to` would have to require that twelve pairs of its M fit in memory, as twelve of M do by the type of `runs`.
+// Entries behind the last pillar say nothing, and neither does a chain that `chain_to` reads from there.
+// Two arrays, here and in the search, and not one of pairs (tried): `best_chain_to` would have to require that twelve pairs of its M fit in memory, as twelve of M do by the type of `runs`; this struct as well, so the search has the two arrays.
 #[derive(Clone, Copy, PartialEq, Eq, Debug)]
 pub struct BestChains<M> {
     pub values: [M; 12],

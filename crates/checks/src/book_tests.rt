@@ -44,19 +44,14 @@ fn a_pillar_is_placed_between_two_rates(rt: HostRuntime) -> Result<(), Fail> {
     assert_eq!(rt; book.place(&mut halves)?, Ok(12));
     assert!(rt; halves == [8, 0, 7]);
     let mut pillars = [7; 2];
-    let told = book.why(&mut pillars)?;
-    assert!(rt;
-        matches!(
-            told,
-            Ok(Reason::Chain(ChainTold {
-                from: 0,
-                to: 1,
-                gap: 10,
-                total: 8,
-                count: 1
-            }))
-        )
-    );
+    let chain = ChainTold {
+        from: 0,
+        to: 1,
+        gap: 10,
+        total: 8,
+        count: 1,
+    };
+    assert_eq!(rt; book.why(&mut pillars)?, Ok(Reason::Chain(chain)));
     assert!(rt; pillars == [0, 7]);
     assert_eq!(rt; book.pages().len(), 6);
     Ok(())

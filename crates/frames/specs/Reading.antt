@@ -52,15 +52,15 @@ abbrev pub Reads : List ℕ → Result Call FrameFault → Type 0
 Reads line (Ok c) = (call_line c ≡ line) × Fits c
 Reads line (Err f) = FrameRefused line f
 
--- a call read from a kind and the bytes of its fields
-pub record Decoded (kind : ℕ) (fields : List ℕ) (c : Call) : Type 0 where
-  pub bytes : call_bytes c ≡ kind ∷ fields
+-- a call read from the code of its kind and the bytes of its fields
+pub record Decoded (code : ℕ) (fields : List ℕ) (c : Call) : Type 0 where
+  pub bytes : call_bytes c ≡ code ∷ fields
   pub fits : Fits c
 
 -- or none, where no call has that kind and that many bytes of fields
 abbrev pub Decodes : ℕ → List ℕ → Option Call → Type 0
-Decodes kind fields (Some c) = Decoded kind fields c
-Decodes kind fields None = (c : Call) → call_code (kind_of c) ≡ kind → length (spelled (fields_of c)) ≢ length fields
+Decodes code fields (Some c) = Decoded code fields c
+Decodes code fields None = (c : Call) → call_code (kind_of c) ≡ code → length (spelled (fields_of c)) ≢ length fields
 
 -- a frame's call, or the first of the frame's rows that refuses it
 abbrev pub FrameReads : List ℕ → Result Call FrameFault → Type 0

@@ -11,7 +11,7 @@ use crate::call::Call;
 use crate::kind::CallKind;
 use yard::edit::{Edit, EntryTerms};
 
-// One function a kind, its fields by name: the form that was asked for.
+// One function a kind, its fields by name: a form of docs/DECISIONS.md.
 fn open(fields: &[u8]) -> Call
     requires { length fields.now ≡ 1 }
     ensures { Decoded (call_code kind.Open) fields.now result }

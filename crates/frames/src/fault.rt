@@ -23,7 +23,7 @@ pub enum FrameFault {
     Kind,
 }
 
-// By hand: a derived `From` has no contract.
+// By hand: the `From` that the crate thiserror derives has no contract.
 impl From<LineFault> for FrameFault {
     ghost from_gives = { λ f g. g ≡ in_line f };
 

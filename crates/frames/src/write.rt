@@ -1,4 +1,4 @@
-// Calls and answers written as lines into the caller's buffer.
+// Calls and answers written as lines into the caller's buffer, with how many bytes that takes: nothing is allocated.
 
 ghost use Rattle.std.specs.Prelude.{◌≡◌, ◌+◌, ◌<◌, ◌≤◌, [], ◌∷◌, ◌++◌, length, MatchOption};
 ghost use Rattle.frames.specs.Kinds.{call_code, answer_code};
@@ -17,7 +17,7 @@ use arrayvec::ArrayVec;
 use yard::edit::{Edit, EntryTerms};
 use yard::force::Run;
 
-// A field more, its highest byte first; the arms differ in type, and each type's bytes in length.
+// A field more, its highest byte first. One arm a type, since no trait of the library has `to_be_bytes`, whose results differ in length.
 fn push_field(bytes: &mut FrameBytes, field: Field)
     requires { length bytes.old.items + length (spell_field field) ≤ 32 }
     ensures { bytes.new.items ≡ bytes.old.items ++ spell_field field }
@@ -56,7 +56,7 @@ fn run_bytes(kind: CallKind, one: u8, other: u8, terms: EntryTerms) -> FrameByte
 }
 
 // The bytes of an edit before its check byte.
-fn edit_bytes(edit: Edit) -> FrameBytes
+fn edit_frame(edit: Edit) -> FrameBytes
     ensures { result.items ≡ edit_bytes edit }
 {
     match edit {
@@ -76,7 +76,7 @@ fn edit_bytes(edit: Edit) -> FrameBytes
 }
 
 // A run's class and its ends.
-fn run_fields(run: Run) -> [Field; 3]
+fn fields_of_run(run: Run) -> [Field; 3]
     ensures { result ≡ run_fields run }
 {
     match run {
@@ -106,7 +106,7 @@ fn told_bytes(kind: AnswerKind, told: Told) -> Option<FrameBytes>
 }
 
 // The bytes of an answer before its check byte; nothing where a chain has no room.
-fn answer_bytes(answer: Answer) -> Option<FrameBytes>
+fn answer_frame(answer: Answer) -> Option<FrameBytes>
     ensures { MatchOption result (32 < length (answer_bytes answer.entry)) (λ b. b.items ≡ answer_bytes answer.entry) }
 {
     let bytes = match answer {
@@ -121,11 +121,11 @@ fn answer_bytes(answer: Answer) -> Option<FrameBytes>
             &[Byte(pillar), Signed(hx), Signed(hy)],
         ),
         Answer::Floor => coded(AnswerKind::Floor as u8, &[]),
-        Answer::Fixed { run } => coded(AnswerKind::Fixed as u8, &run_fields(run)),
+        Answer::Fixed { run } => coded(AnswerKind::Fixed as u8, &fields_of_run(run)),
         Answer::Chain(told) => told_bytes(AnswerKind::Chain, told)?,
         Answer::Clash(told) => told_bytes(AnswerKind::Clash, told)?,
         Answer::RunPriced { run, length, cents } => {
-            let [class, one, other] = run_fields(run);
+            let [class, one, other] = fields_of_run(run);
             coded(
                 AnswerKind::RunPriced as u8,
                 &[class, one, other, Word(length), Word(cents)],
@@ -184,7 +184,7 @@ pub fn write_call(call: Call, out: &mut [u8]) -> Option<usize>
     ensures { Wrote (line_text (call_bytes call)) out.old result out.new }
 {
     let bytes = match call {
-        Call::Edit(edit) => edit_bytes(edit),
+        Call::Edit(edit) => edit_frame(edit),
         Call::Place => coded(CallKind::Place as u8, &[]),
         Call::Why => coded(CallKind::Why as u8, &[]),
         Call::Dearest { k } => coded(CallKind::Dearest as u8, &[Byte(k)]),
@@ -197,5 +197,5 @@ pub fn write_call(call: Call, out: &mut [u8]) -> Option<usize>
 pub fn write_answer(answer: Answer, out: &mut [u8]) -> Option<usize>
     ensures { Wrote (line_text (answer_bytes answer.entry)) out.old result out.new }
 {
-    put_line(answer_bytes(answer)?, out)
+    put_line(answer_frame(answer)?, out)
 }

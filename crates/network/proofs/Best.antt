@@ -2,12 +2,11 @@
 use Rattle.std.specs.Prelude.{Some, None}
 use Rattle.std.proofs.Common.{◌≡◌, ℕ, ◌+◌, ◌^◌, ◌<◌, ◌≤◌, true, List, [], ◌∷◌, reverse, sym, refl, ap, ◌∙◌, inl, inr, arith}
 use Rattle.std.specs.List.{AllByRecursion}
-use Rattle.chains.specs.Measures.{add_steps, fewer}
+use Rattle.chains.specs.Measures.{add_steps, fewer, Steps}
 use Rattle.chains.specs.Chains.{chain_value, Chain, Different, Leads, BestFound}
 use Rattle.chains.specs.Along.{value_onward, last_of}
 use Rattle.chains.specs.StepsLaws.{steps_laws}
 use Rattle.chains.proofs.Forward.{best_to}
-use Rattle.chains.specs.Measures.{Steps}
 use Rattle.network.specs.Chain.{reaches_onward, AddTo}
 use Rattle.network.specs.Line.{Line, Upto, Sits, Highest, Tight, Start, steps_of}
 use Rattle.network.proofs.Sums.{add_cons, add_parts, limited_under, under_sum, limited_same}

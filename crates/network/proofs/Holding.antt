@@ -1,10 +1,9 @@
 -- The chain that holds a pillar down, as the tables tell it. Assumes nothing.
 use Rattle.std.specs.Prelude.{Some, None}
 use Rattle.std.proofs.Common.{zero, suc, ◌≡◌, ℕ, ◌+◌, ◌-◌, ◌^◌, ◌<◌, ◌≤◌, List, [], ◌∷◌, reverse, length, get_or, sym, refl, ap, ◌∙◌, arith}
-use Rattle.chains.specs.Measures.{no_steps}
+use Rattle.chains.specs.Measures.{no_steps, Steps}
 use Rattle.chains.specs.Chains.{ReadOut, Unread, pillar_at}
 use Rattle.chains.proofs.Reading.{told_once, traced_wider}
-use Rattle.chains.specs.Measures.{Steps}
 use Rattle.network.specs.declared.line.Problem.{Problem}
 use Rattle.network.specs.Line.{Tight, TooLow, steps_of, offer_of}
 use Rattle.network.specs.Lines.{line_of, HeldDown}

@@ -1,9 +1,8 @@
 -- What the search on a line leaves in its tables. Assumes nothing.
 use Rattle.std.proofs.Common.{◌≡◌, ℕ, ◌<◌, List, length, get_or, take, sym, arith}
 use Rattle.std.proofs.lemmas.List.{get_or-take}
-use Rattle.chains.specs.Measures.{no_steps, add_steps, fewer}
+use Rattle.chains.specs.Measures.{no_steps, add_steps, fewer, Steps}
 use Rattle.chains.specs.Chains.{PlanFits, BestFound}
-use Rattle.chains.specs.Measures.{Steps}
 use Rattle.network.specs.declared.line.Problem.{Problem}
 use Rattle.network.specs.Line.{Highest, Start, Upto, steps_of}
 use Rattle.network.specs.Lines.{line_of, Searched}

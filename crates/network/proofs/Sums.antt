@@ -2,8 +2,7 @@
 use Rattle.std.specs.Prelude.{Some, None}
 use Rattle.std.proofs.Common.{◌≡◌, ℕ, ◌+◌, ◌^◌, ◌<◌, ◌≤◌, true, List, ◌∷◌, refl, arith}
 use Rattle.std.proofs.lemmas.Bool.Decides.{nat_tests}
-use Rattle.chains.specs.Measures.{add_steps, fewer}
-use Rattle.chains.specs.Measures.{Steps}
+use Rattle.chains.specs.Measures.{add_steps, fewer, Steps}
 use Rattle.network.specs.Layout.{Within}
 use Rattle.network.specs.Chain.{AddTo}
 

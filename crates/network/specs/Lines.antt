@@ -1,8 +1,7 @@
 -- A line as the code holds it, and what is asked and answered about it. Assumes nothing.
 use Rattle.std.specs.Prelude.{◌≡◌, ℕ, ◌<◌, List, length, Ok, Err, Result, slice_index, slice_index_or}
-use Rattle.chains.specs.Measures.{no_steps, add_steps, fewer}
+use Rattle.chains.specs.Measures.{no_steps, add_steps, fewer, Steps}
 use Rattle.chains.specs.Chains.{BestFound}
-use Rattle.chains.specs.Measures.{Steps}
 use Rattle.network.specs.declared.answer.Chain.{Chain}
 use Rattle.network.specs.declared.line.Problem.{Problem}
 use Rattle.network.specs.Line.{Line, Highest, Tight, Start, TooLow, steps_of}

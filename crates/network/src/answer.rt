@@ -2,7 +2,7 @@
 use arrayvec::ArrayVec;
 
 // The positions of the pillars: a reading for each of them, and (0, 0) behind the last.
-// No count stands beside the array: a caller has the number of its pillars, and nothing may allocate.
+// Twelve and no list, which would be no plainer: each axis gives twelve numbers, and a caller has the number of its pillars.
 #[derive(Clone, Copy, PartialEq, Eq, Debug)]
 pub struct Positions {
     pub readings: [(i32, i32); 12],

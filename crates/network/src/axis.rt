@@ -43,7 +43,7 @@ fn lift(points: &[(i32, i32)], axis: Axis, low: i64, places: &mut [u64])
     requires order { (i : ℕ) → i < length points.now → low ≤ℤ number_on axis (point_in points.now i) }
     ensures { (i : ℕ) → i < length points.now → number_on axis (point_in points.now i) ≡ low +ℤ pos (slice_index places.new i) }
 {
-    // Not a zip with the points (tried): after an `iter_mut` through an adapter no invariant can name the places.
+    // Not a zip with the points (tried): what an `iter_mut` inside an adapter writes is not known to the proof.
     for (i, place) in places.iter_mut().enumerate() {
         *place = axis.number(points[i]).abs_diff(low);
     }
@@ -90,8 +90,9 @@ impl Checked<'_> {
             links,
         } = self.network;
         let low = lowest(points, axis);
+        // Working lengths in a wide slice: a form of docs/DECISIONS.md, without the heap.
+        // It is cut by the rows, which are as many as the points: the loops over both then test one length.
         let mut places = [0; 52];
-        // By the rows and not by the points, which are as many: the loops over both then test one length.
         let places = &mut places[..feeders.len()];
         lift(points, axis, low, places);
         let line = Problem {

@@ -59,6 +59,7 @@ pub fn fit(network: &Network) -> Result<Positions, Unfit>
     ensures { Fitted network.now result }
 {
     let checked = Checked::try_from(*network)?;
+    // not by `map_err`, whose closure would have to require what `told` requires
     match checked.solve() {
         Ok(positions) => Ok(positions),
         Err(chain) => Err(Unfit::TooShort(checked.told(chain))),

@@ -114,7 +114,7 @@ impl Problem<'_> {
         Pillar { line: self, number }
     }
 
-    // How far each pillar can go by one feeder.
+    // How far each pillar can go by one feeder; an array without the heap, cut to the pillars where it is read.
     fn starts(&self) -> [Steps; 12]
         ensures { let l = line_of self.now in (j : ℕ) → j < l.pillars → Start l j (slice_index_or result j no_steps) }
     {
@@ -127,7 +127,7 @@ impl Problem<'_> {
         })
     }
 
-    // A pillar whose best chain ends too low for some point, if there is one.
+    // A pillar whose best chain ends too low for some point, if there is one. (`find_map` was tried, and is no plainer: its closure needs a clause of its own.)
     fn too_low(&self, best: &[Steps; 12]) -> Option<Low>
         ensures { let l = line_of self.now in MatchOption result ((i j : ℕ) → i < l.points → j < l.pillars → Upto (l.feeder i j) (l.at i) (steps_of (slice_index_or best.now j no_steps))) (λ p. (p.point < l.points) × (p.pillar < l.pillars) × TooLow (l.feeder p.point p.pillar) (l.at p.point) (steps_of (slice_index_or best.now p.pillar no_steps))) }
     {

@@ -50,7 +50,7 @@ fn all_even(links: &[[Steps; 12]]) -> bool
     links.iter().enumerate().all(|(j, _)| row_even(links, j))
 }
 
-// A network whose tables were looked at.
+// A network whose tables were checked.
 #[derive(Clone, Copy)]
 pub(crate) struct Checked<'a> {
     pub network: Network<'a>,

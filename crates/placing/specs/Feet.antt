@@ -24,7 +24,7 @@ feet_with found m p = record { first = option_map_or (λ f. f.first) found p; sp
 abbrev pub point_for : InForce → Point → ℕ → ℤ × ℤ
 point_for F first i = point_reading (foot_or (mast_at F i) first)
 
--- a mast stands and has this reading
+-- a mast stands and has this reading (a test, since it says so in a type's invariant)
 abbrev pub reads : ℤ × ℤ → Option Mast → Bool
 reads p (Some a) = int_eq (a.at.x +ℤ a.at.y) p.0 && int_eq (a.at.x -ℤ a.at.y) p.1
 reads p None = false

@@ -3,8 +3,8 @@
 use yard::force::Run;
 
 // A chain between two masts, the lower number first: the length between them, what its runs reach in all, and how many pillars it has.
-// The pillars themselves stand at the head of the caller's list, since nothing here may allocate.
-#[derive(Clone, Copy)]
+// The pillars themselves stand at the head of the caller's list, where the call is asked to write them.
+#[derive(Clone, Copy, PartialEq, Eq, Debug)]
 pub struct ChainTold {
     pub from: u8,
     pub to: u8,
@@ -14,7 +14,7 @@ pub struct ChainTold {
 }
 
 // Why no lower level exists, or why there is none at all.
-#[derive(Clone, Copy)]
+#[derive(Clone, Copy, PartialEq, Eq, Debug)]
 pub enum Reason {
     // the level is 0
     Floor,

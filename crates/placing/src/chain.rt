@@ -1,6 +1,6 @@
 // A chain of runs between two masts, by the terms of its runs: at which levels it is short of a gap.
 
-ghost use Rattle.std.specs.Prelude.{◌≡◌, ℕ, ◌+◌, ◌<◌, ◌≤◌, map, length, take, MatchOption};
+ghost use Rattle.std.specs.Prelude.{◌≡◌, ℕ, ◌+◌, ◌<◌, ◌≤◌, map, length, MatchOption};
 ghost use Rattle.std.specs.List.{AllByRecursion};
 ghost use Rattle.yard.specs.declared.force.Run.TheVariants.{Feeder as feeder_run, Link as link_run};
 ghost use Rattle.runs.specs.Order.{run_terms};
@@ -21,7 +21,7 @@ pub(crate) struct Jump {
 }
 
 // The terms from a mast to a pillar; new ones where the mast does not stand.
-// `Plan::terms` does not serve here: it tells none for such a mast, and what it says of mast 40 and above cannot be joined to a chain's masts.
+// Not by `Plan::terms` (tried): the proof would need that the mast's number is below 40, and for a link that its pillars differ, which a chain's terms do not ask.
 fn feeder_terms(plan: &Plan, mast: u8, pillar: u8) -> Terms
     requires { pillar < plan.now.force.count }
     ensures { result ≡ run_terms plan.now.force (feeder_run mast pillar) }
@@ -32,7 +32,7 @@ fn feeder_terms(plan: &Plan, mast: u8, pillar: u8) -> Terms
     }
 }
 
-// The terms between two pillars.
+// The terms between two pillars. (Three functions here ask that a pillar is one of the plan: a type of such pillars would be made of each entry of a chain, which is no plainer.)
 fn link_terms(plan: &Plan, p: u8, q: u8) -> Terms
     requires { (p < plan.now.force.count) × (q < plan.now.force.count) }
     ensures { result ≡ run_terms plan.now.force (link_run p q) }

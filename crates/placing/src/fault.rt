@@ -23,7 +23,7 @@ pub enum PlaceFault {
     Unkept,
 }
 
-// By hand: a derived `From` has no contract.
+// By hand: the `From` that the crate thiserror derives has no contract.
 impl From<Barred> for PlaceFault {
     ghost from_gives = { λ f g. g ≡ barring f };
 

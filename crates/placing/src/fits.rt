@@ -19,6 +19,7 @@ impl Ground<'_> {
         ensures { FitsAt self.now.plan.now.force level result }
     {
         let points = self.points.as_slice();
+        // one table for the speed of Place, as `fill_feeders` says
         let mut feeders = [[None; 12]; 40];
         let feeders = &mut feeders[0..points.len()];
         fill_feeders(self.plan, level, feeders);

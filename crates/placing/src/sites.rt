@@ -29,7 +29,7 @@ pub(crate) fn sites_of(positions: &Positions) -> [Site; 12]
     positions.readings.map(|reading| site_of(reading, origin))
 }
 
-// The halves of each site at the head of the list, written by their places: of what is written through `chunks_exact_mut` a proof learns nothing.
+// The halves of each site at the head of the list, written by their places: what is written through `chunks_exact_mut` is not known to the proof.
 pub(crate) fn write_halves(sites: &[Site], list: &mut [i32])
     requires { 2 * length sites.now ≤ length list.old }
     ensures { list.new ≡ halves_of (spots_of sites.now) ++ drop (2 * length sites.now) list.old }

@@ -12,7 +12,7 @@ use std::array;
 use yard::force::Mast;
 use yard::plan::Plan;
 
-// The reaches from a mast to each pillar; where none stands, none is limited, which no measure says in general, so that a row of links serves no mast.
+// The reaches from a mast to each pillar; where it does not stand, none is limited. (Not one with a row of links: a measure has no value for that case.)
 fn feeder_row(mast: &Option<Mast>, level: u32) -> [Steps; 12]
     ensures { (p : ℕ) → p < 12 → slice_index_or result p no_steps ≡ mast_reach mast.now level p }
 {
@@ -22,8 +22,8 @@ fn feeder_row(mast: &Option<Mast>, level: u32) -> [Steps; 12]
     }
 }
 
-// The reaches from each mast to each pillar, in a table that the caller lends: one by value was tried, and Place took a quarter more instructions.
-// By number and not a zip with the masts (tried): of what an `iter_mut` inside an adapter writes a proof learns nothing.
+// The reaches from each mast to each pillar, written into the caller's table: one by value was tried, and Place took a quarter more instructions.
+// By number and not a zip with the masts (tried): what an `iter_mut` inside an adapter writes is not known to the proof.
 pub(crate) fn fill_feeders(plan: &Plan, level: u32, rows: &mut [[Steps; 12]])
     requires { length rows.old ≤ 40 }
     ensures { (m p : ℕ) → m < length rows.new → p < 12 → reach_in rows.new m p ≡ mast_reach (mast_at plan.now.force m) level p }

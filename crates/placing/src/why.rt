@@ -1,6 +1,6 @@
 // Why: the reason that a plan allows no lower level, or none at all.
 
-ghost use Rattle.std.specs.Prelude.{◌≡◌, ℕ, ◌-◌, ◌<◌, ◌≤◌, List, ◌++◌, length, take, drop, Result as ResultOf};
+ghost use Rattle.std.specs.Prelude.{◌≡◌, ℕ, ◌-◌, ◌<◌, ◌≤◌, List, ◌++◌, length, drop, Result as ResultOf};
 ghost use Rattle.yard.specs.declared.fault.Refusal.{Refusal as RefusalTold};
 ghost use Rattle.placing.specs.Refusals.{why_told};
 ghost use Rattle.placing.specs.Steps.{WhyStep};

@@ -1,5 +1,5 @@
 -- Spots on the trench grid, by twice their x and twice their y.
-use Rattle.std.specs.Prelude.{◌≡◌, ℕ, ◌%◌, ℤ, pos, ◌+ℤ◌, ◌-ℤ◌, Some, None, Option, unsigned_abs}
+use Rattle.std.specs.Prelude.{◌≡◌, ℕ, ◌%◌, ℤ, pos, ◌+ℤ◌, ◌-ℤ◌, Some, Option, unsigned_abs}
 use Rattle.std.specs.Option.{option_map, option_map_or}
 use Rattle.yard.specs.declared.force.InForce.{InForce}
 use Rattle.yard.specs.declared.force.Mast.{Mast}

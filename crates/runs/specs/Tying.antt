@@ -32,7 +32,7 @@ pub data TiedDown (F : InForce) : ℕ → Type 0 where
 abbrev pub Feeds : InForce → ℕ → ℕ → Type 0
 Feeds F m p = (s : Spot) × StandsAt F m s × (ties_by (run_terms F (Feeder m p)) ≡ true)
 
--- some standing mast has a tying feeder to the pillar
+-- some standing mast has a tying feeder to the pillar (`is_fed` is the same as a test)
 abbrev pub Fed : InForce → ℕ → Type 0
 Fed F p = (m : ℕ) × Feeds F m p
 

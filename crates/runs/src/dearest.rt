@@ -1,4 +1,4 @@
-// The dearest run of a plan, taken over every run in run order.
+// The dearest run of a plan, taken over every run in run order by loops over the slices of masts and pillars with their numbers, a form of docs/DECISIONS.md.
 
 ghost use Rattle.std.specs.Prelude.{◌≡◌, ◌+◌, ◌-◌, ◌<◌, [], None, slice_index_or};
 ghost use Rattle.std.specs.Option.{option_copied};

@@ -13,7 +13,7 @@ use yard::force::Mast;
 use yard::plan::Plan;
 
 // Whether a mast stands and its feeder to a pillar ties.
-// (That p is below 12 four private functions of the crate ask; a type of such numbers would be made at each of their calls, which is no plainer.)
+// (Five private functions of the crate ask that a pillar's number is below 12; a type of such numbers would be made at each call, which is no plainer.)
 fn feeds(mast: &Option<Mast>, p: usize) -> bool
     requires { p < 12 }
     ensures { result ≡ mast_ties p mast.now }

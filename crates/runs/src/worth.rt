@@ -52,7 +52,7 @@ fn link_row<M: Worth>(plan: &Plan, level: u32, p: usize) -> [M; 12]
     array::from_fn(|q| M::of(rows[p.min(q)][p.max(q)], level))
 }
 
-// What the links between each two pillars are worth: a row for each pillar.
+// What the links between each two pillars are worth: a row for each pillar, in an array without the heap, cut to the pillars where it is read.
 pub fn link_rows<M: Worth>(plan: &Plan, level: u32) -> [[M; 12]; 12]
     ensures { (p q : ℕ) → p < plan.now.force.count → q < plan.now.force.count → run_at M.Measure.empty result p q ≡ M.worth (run_terms plan.now.force (link_run p q)) level }
 {

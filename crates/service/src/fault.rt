@@ -15,7 +15,7 @@ pub enum ServeFault {
     Entry(EntryFault),
 }
 
-// By hand: a derived `From` has no contract.
+// By hand: the `From` that the crate thiserror derives has no contract.
 impl From<FrameFault> for ServeFault {
     ghost from_gives = { λ f g. g ≡ in_frame f };
 
@@ -24,7 +24,7 @@ impl From<FrameFault> for ServeFault {
     }
 }
 
-// By hand: a derived `From` has no contract.
+// By hand: the `From` that the crate thiserror derives has no contract.
 impl From<EntryFault> for ServeFault {
     ghost from_gives = { λ f g. g ≡ in_entry f };
 

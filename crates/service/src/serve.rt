@@ -13,8 +13,8 @@ use frames::write::write_answer;
 use yard::fault::Refusal;
 use yard::plan::Plan;
 
-// The plan and the line go through three functions, one inside the other: a struct of both would live for one call, which is no plainer.
 // Makes the call of a line; the calls other than edits are not served yet.
+// (The plan and the line are parameters here, of `answer` and of `serve`: a struct of both would live for one call, which is no plainer.)
 fn make(plan: &mut Plan, line: &[u8]) -> Result<(), ServeFault>
     ensures { LineServed plan.old.force line.now result plan.new.force }
 {

@@ -1,4 +1,4 @@
--- The rows that entries are held to, and how a refused entry is told.
+-- The rules by which calls are refused, the rows that entries are held to, and how a refused entry is told.
 use Rattle.std.specs.Prelude.{ℕ, Bool, cond, List, [], ◌∷◌, Some, None, Option}
 use Rattle.yard.specs.declared.fault.Layer.{Layer}
 use Rattle.yard.specs.declared.fault.Layer.TheVariants as layer
@@ -9,7 +9,7 @@ use Rattle.yard.specs.declared.fault.EntryRow.{EntryRow}
 use Rattle.yard.specs.declared.fault.EntryRow.TheVariants.{PillarCount, MastNumber, NotStanding, OffGrid, NoPillar, SelfLink, TermRange}
 use Rattle.yard.specs.declared.fault.EntryFault.{EntryFault}
 
--- the number by which each rule is told; 12 is no rule's yet
+-- the number by which each rule is told; 12 is no rule's
 abbrev pub rule_number : Rule → ℕ
 rule_number LineLength = 1
 rule_number NoDigit = 2

@@ -51,7 +51,7 @@ pub enum Rule {
     Loose,
     // no placing keeps all limits
     Unkept,
-    // a buffer or a list is too short
+    // a buffer or a list is too short, or an input too long
     Room,
 }
 
@@ -70,7 +70,7 @@ pub struct EntryFault {
 }
 
 impl Rule {
-    // The number by which the rule is told.
+    // The number by which the rule is told. (By a match: an enum of which a case holds a row has no codes of its own.)
     pub fn number(self) -> u8
         ensures { result ≡ rule_number self }
     {

@@ -23,7 +23,7 @@ pub struct Terms {
     pub limit: Option<u32>,
 }
 
-// The terms of a run that nobody has set.
+// The terms of a run that nobody has set: the `Default` of the type, as a constant.
 pub const NEW_TERMS: Terms = Terms {
     rate: 0,
     fixed: 0,
@@ -44,7 +44,7 @@ pub enum Run {
     Link { one: u8, other: u8 },
 }
 
-// A link's terms stand in the row of its lower pillar, at its higher one.
+// A link's terms stand in the row of its lower pillar, at its higher one. The tables have room for every pillar, of which there are `count`: no heap.
 #[derive(Drop)]
 pub struct InForce {
     pub count: u8,

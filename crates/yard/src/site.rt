@@ -1,6 +1,6 @@
 // Sites: crossings of trenches and middles of trench squares.
 
-ghost use Rattle.std.specs.Prelude.{◌≡◌, ℕ, ◌%◌, ◌≤◌, unsigned_abs};
+ghost use Rattle.std.specs.Prelude.{◌≡◌, ◌%◌, ◌≤◌, unsigned_abs};
 
 // A site by its halves, twice its x and twice its y: both even or both odd, each at most 200,000 from 0.
 #[derive(Clone, Copy, PartialEq, Eq, Debug)]

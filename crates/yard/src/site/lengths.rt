@@ -1,4 +1,4 @@
-ghost use Rattle.std.specs.Prelude.{◌≡◌, ℕ, max, ℤ, ◌-ℤ◌, MatchOption, unsigned_abs};
+ghost use Rattle.std.specs.Prelude.{◌≡◌, max, ℤ, ◌-ℤ◌, MatchOption, unsigned_abs};
 ghost use Rattle.yard.specs.Grid.{IsSite, IsReading, FarReading, distance};
 
 use crate::site::Site;
