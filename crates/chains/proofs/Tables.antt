@@ -38,9 +38,9 @@ module _ {M : Type 0} {empty : M} {op : M → M → M} {leq : M → M → Bool} 
   }
 
   module _ {best : List M} {before : List ℕ} {marks : List Bool} (T : Tables empty op leq first runs best before marks) where
-    pub tables_end : length first ≤ 12 → ((k : ℕ) → k < 12 → get_or marks k false ≡ true) → BestFound op leq (λ v. get_or first v empty) (run_at empty runs) (length first) (λ v. get_or best v empty) (λ v. get_or before v 0)
-    tables_end few all =
-        at_end laws T.state (open_end marks (λ k h. all k (omega arith))) (λ k h. all k (omega (arith, few)))
+    pub tables_end : ((k : ℕ) → k < length first → get_or marks k false ≡ true) → BestFound op leq (λ v. get_or first v empty) (run_at empty runs) (length first) (λ v. get_or best v empty) (λ v. get_or before v 0)
+    tables_end all =
+        at_end laws T.state (open_end marks (λ k h. elim (cases_lt k (length first)) [ inl lt ↦ all k lt | inr ge ↦ T.behind k ge (omega (arith, h, T.long)) ])) all
 
     -- the pillar u is finished: x is its value, and row its row
     module _ (few : length first ≤ 12) (u : ℕ) (in_table : u < 12) (open_u : get_or marks u false ≡ false) {marks' : List Bool} (marks_is : marks' ≡ set marks u true) where
@@ -53,7 +53,7 @@ module _ {M : Type 0} {empty : M} {op : M → M → M} {leq : M → M → Bool} 
       pub tables_less : open_in marks' + 1 ≡ open_in marks
       tables_less = ap (λ m. open_in m + 1) marks_is ∙ open_less marks u in_marks open_u
 
-      pub tables_turn : (best_long : length best ≡ 12) (runs_long : length runs ≡ length first) → ((k : ℕ) → k < 12 → get_or marks k false ≡ false → leq (get_or best u empty) (get_or best k empty) ≡ true) → (x : M) → x ≡ get_or best u x → (row : List M) → row ≡ get_or runs u row → (best' : List M) (before' : List ℕ) → ((v : ℕ) → v < 12 → get_or best' v empty ≡ cond (leq (get_or best v empty) (op x (get_or row v empty))) (get_or best v empty) (op x (get_or row v empty))) → ((v : ℕ) → v < 12 → get_or before' v 0 ≡ cond (leq (get_or best v empty) (op x (get_or row v empty))) (get_or before v 0) u) → Tables empty op leq first runs best' before' marks'
+      pub tables_turn : (best_long : length best ≡ 12) (runs_long : length runs ≡ length first) → ((k : ℕ) → k < length first → get_or marks k false ≡ false → leq (get_or best u empty) (get_or best k empty) ≡ true) → (x : M) → x ≡ get_or best u x → (row : List M) → row ≡ get_or runs u row → (best' : List M) (before' : List ℕ) → ((v : ℕ) → v < length first → get_or best' v empty ≡ cond (leq (get_or best v empty) (op x (get_or row v empty))) (get_or best v empty) (op x (get_or row v empty))) → ((v : ℕ) → v < length first → get_or before' v 0 ≡ cond (leq (get_or best v empty) (op x (get_or row v empty))) (get_or before v 0) u) → Tables empty op leq first runs best' before' marks'
       tables_turn best_long runs_long picked x x_is row row_is best' before' best_is before_is =
           let x_at : x ≡ get_or best u empty = get_or_read best u x (omega arith) x_is empty in
           let row_at : row ≡ get_or runs u [] = get_or_read runs u row (omega (arith, in_u)) row_is [] in
@@ -61,7 +61,7 @@ module _ {M : Type 0} {empty : M} {op : M → M → M} {leq : M → M → Bool} 
           record {
             long = ap length marks_is ∙ length-set marks u true ∙ T.long;
             behind = λ v low high. ap (λ m. get_or m v false) marks_is ∙ get_or-set_other marks u v true false (omega (arith, in_u)) ∙ T.behind v low high;
-            state = turn laws T.state u _ _ _ _ in_u open_u (λ k h. picked k (omega (arith, few))) (ap (λ m. get_or m u false) marks_is ∙ get_or-set_same marks u true false in_marks) (λ v ne. ap (λ m. get_or m v false) marks_is ∙ get_or-set_other marks u v true false ne) tables_less (λ v h. best_is v (omega (arith, few)) ∙ ap (λ y. cond (leq (get_or best v empty) y) (get_or best v empty) y) (offer v)) (λ v h. before_is v (omega (arith, few)) ∙ ap (λ y. cond (leq (get_or best v empty) y) (get_or before v 0) u) (offer v));
+            state = turn laws T.state u _ _ _ _ in_u open_u picked (ap (λ m. get_or m u false) marks_is ∙ get_or-set_same marks u true false in_marks) (λ v ne. ap (λ m. get_or m v false) marks_is ∙ get_or-set_other marks u v true false ne) tables_less (λ v h. best_is v h ∙ ap (λ y. cond (leq (get_or best v empty) y) (get_or best v empty) y) (offer v)) (λ v h. before_is v h ∙ ap (λ y. cond (leq (get_or best v empty) y) (get_or before v 0) u) (offer v));
           }
 
 -- what the search found stands in the fronts of the tables

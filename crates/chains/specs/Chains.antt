@@ -49,6 +49,14 @@ run_at empty table u v = slice_index_or (slice_index_or table u []) v empty
 abbrev pub pillar_at : List ℕ → ℕ → ℕ
 pillar_at table v = slice_index table v
 
+-- behind the last of n pillars the tables hold what they held
+abbrev pub StaysBehind : {M : Type 0} → M → ℕ → List M → List ℕ → List M → List ℕ → Type 0
+StaysBehind empty n values before values' before' = (v : ℕ) → n ≤ v → (value_at empty values' v ≡ value_at empty values v) × (pillar_at before' v ≡ pillar_at before v)
+
+-- behind the last of n pillars each value is that of the empty chain, and each previous pillar is 255, which is none: no chain is told there
+abbrev pub NoneBehind : {M : Type 0} → M → ℕ → List M → List ℕ → Type 0
+NoneBehind empty n values before = (v : ℕ) → n ≤ v → (value_at empty values v ≡ empty) × (v < 12 → pillar_at before v ≡ 255)
+
 -- the tables of a plan: at most twelve pillars, and a row of runs for each
 pub record PlanFits {M : Type 0} (first : List M) (runs : List (List M)) : Type 0 where
   pub few : length first ≤ 12

@@ -1,3 +1,4 @@
+pub mod Pillars
 pub mod Laws
 pub mod Measures
 pub mod Chains

@@ -4,5 +4,6 @@
 mod marks;
 pub mod measure;
 pub mod one;
+pub mod pillars;
 pub mod read;
 pub mod search;

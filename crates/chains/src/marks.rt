@@ -30,12 +30,13 @@ impl Marks {
         self.done[p] = true;
     }
 
-    // The best of the pillars that are not finished, or none where all are. (A zip with the values was tried, with a filter and a reduce: the proof did not close.)
-    pub(crate) fn nearest<M: Measure>(&self, best: &[M; 12]) -> Option<usize>
-        ensures { MatchOption result ((k : ℕ) → k < 12 → Finished self.now.done k) (λ u. BestUnfinished M.leq self.now.done 12 (value_at M.empty best.now) u) }
+    // The best of the n pillars that are not finished, or none where all are. (A zip with the values was tried, with a filter and a reduce: the proof did not close.)
+    pub(crate) fn nearest<M: Measure>(&self, n: usize, best: &[M; 12]) -> Option<usize>
+        requires { n ≤ 12 }
+        ensures { MatchOption result ((k : ℕ) → k < n → Finished self.now.done k) (λ u. BestUnfinished M.leq self.now.done n (value_at M.empty best.now) u) }
     {
         let mut nearest = None;
-        for (p, done) in self.done.iter().enumerate() {
+        for (p, done) in self.done[..n].iter().enumerate() {
             if !*done {
                 match nearest {
                     Some(u) if best[u].at_least_as_good(best[p]) => continue,

@@ -2,17 +2,18 @@
 ghost use Rattle.std.specs.Prelude.{length, MatchResult};
 ghost use Rattle.chains.specs.Chains.{value_at, run_at};
 ghost use Rattle.chains.specs.Along.{BestTo, AsksFit};
+ghost use Rattle.chains.specs.Pillars.{listed};
 
 use super::measure::Measure;
+use super::pillars::Pillars;
 use super::read::chain_to;
 use super::search::{Misfit, search};
-use arrayvec::ArrayVec;
 
 // A best chain: its value, and its pillars from the first on.
-#[derive(Clone, PartialEq, Eq, Debug, Drop)]
+#[derive(Clone, Copy, PartialEq, Eq, Debug)]
 pub struct BestChain<M> {
     pub value: M,
-    pub pillars: ArrayVec<u8, 12>,
+    pub pillars: Pillars,
 }
 
 // A best chain to v. An error where the tables do not fit together, or v is no pillar.
@@ -21,7 +22,7 @@ pub fn best_chain_to<M: Measure>(
     runs: &[[M; 12]],
     v: u8,
 ) -> Result<BestChain<M>, Misfit>
-    ensures { MatchResult result (λ b. AsksFit first.now runs.now v × BestTo M.op M.leq (value_at M.empty first.now) (run_at M.empty runs.now) (length first.now) v b.value b.pillars.items) (λ _. AsksFit first.now runs.now v → ⊥) }
+    ensures { MatchResult result (λ b. AsksFit first.now runs.now v × BestTo M.op M.leq (value_at M.empty first.now) (run_at M.empty runs.now) (length first.now) v b.value (listed b.pillars)) (λ _. AsksFit first.now runs.now v → ⊥) }
 {
     if v as usize >= first.len() {
         return Err(Misfit);
@@ -34,6 +35,6 @@ pub fn best_chain_to<M: Measure>(
     };
     Ok(BestChain {
         value: values[v as usize],
-        pillars,
+        pillars: Pillars::from(pillars),
     })
 }

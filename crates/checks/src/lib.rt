@@ -4,6 +4,8 @@
 #[cfg(test)]
 mod book_tests;
 #[cfg(test)]
+mod chain_tests;
+#[cfg(test)]
 mod frame_tests;
 #[cfg(test)]
 mod plan_tests;

@@ -1,6 +1,7 @@
 -- A chain read from its other end. Assumes nothing.
 use Rattle.std.proofs.Common.{◌≡◌, ℕ, ◌+◌, ◌<◌, List, [], ◌∷◌, reverse, Err, sym, refl, ap, ◌∙◌, subst, arith}
 use mathlib.Core.List.{reverse_aux}
+use Rattle.chains.specs.Pillars.{listed}
 use Rattle.network.specs.declared.answer.Chain.{Chain}
 use Rattle.std.specs.List.{AllByRecursion}
 use Rattle.chains.specs.Chains.{Different}
@@ -8,7 +9,7 @@ use Rattle.chains.proofs.Reversed.{all_reversed, different_reversed}
 use Rattle.chains.specs.Measures.{Steps}
 use Rattle.network.specs.Layout.{Layout, apart}
 use Rattle.network.specs.Chain.{reaches_onward, reaches_along, AddTo, Chained, Short}
-use Rattle.network.specs.Networks.{SolvedBoth, turned_chain}
+use Rattle.network.specs.Networks.{SolvedBoth, Turned}
 use Rattle.network.proofs.Sums.{add_first, add_cons}
 use Rattle.network.proofs.Triangle.{apart_turned}
 
@@ -53,5 +54,5 @@ short_turned L even a b pillars gap total S = record {
 }
 
 -- the chain of both line problems, from its other end
-pub solved_turned : (L : Layout) → ((j k : ℕ) → j < L.pillars → k < L.pillars → L.link j k ≡ L.link k j) → (e : Chain) → SolvedBoth L (Err e) → SolvedBoth L (Err (turned_chain e))
-solved_turned L even e S = rw (apart_turned (L.point e.to) (L.point e.from)) (short_turned L even e.from e.to e.pillars.items (apart (L.point e.from) (L.point e.to)) e.total S)
+pub solved_turned : (L : Layout) → ((j k : ℕ) → j < L.pillars → k < L.pillars → L.link j k ≡ L.link k j) → (e d : Chain) → Turned e d → SolvedBoth L (Err e) → SolvedBoth L (Err d)
+solved_turned L even e d T S = rw (T.from, T.to, T.total, T.pillars, apart_turned (L.point e.to) (L.point e.from)) (short_turned L even e.from e.to (listed e.pillars) (apart (L.point e.from) (L.point e.to)) e.total S)

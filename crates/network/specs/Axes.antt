@@ -1,5 +1,6 @@
 -- One axis of a layout: the readings of the points on it, and which positions are the greatest on it. Assumes nothing.
 use Rattle.std.specs.Prelude.{◌≡◌, ℕ, ◌<◌, ◌≤◌, List, ℤ, pos, ◌-ℤ◌, ◌≤ℤ◌, Ok, Err, Result, slice_index_or, unsigned_abs}
+use Rattle.chains.specs.Pillars.{listed}
 use Rattle.network.specs.declared.axis.Axis.{Axis}
 use Rattle.network.specs.declared.axis.Axis.TheVariants.{First, Second}
 use Rattle.network.specs.declared.answer.Chain.{Chain}
@@ -38,4 +39,4 @@ pub record ShortOn (L : Layout) (a : ℕ → ℤ) (from to : ℕ) (pillars : Lis
 -- what the problem on one axis answers: the greatest positions with 0 behind them, or a chain that is too short
 abbrev pub SolvedOn : Layout → (ℕ → ℤ) → Result (List ℤ) Chain → Type 0
 SolvedOn L a (Ok xs) = GreatestOn L a (λ j. slice_index_or xs j (pos 0)) × ((j : ℕ) → L.pillars ≤ j → slice_index_or xs j (pos 0) ≡ pos 0)
-SolvedOn L a (Err e) = ShortOn L a e.from e.to e.pillars.items e.total
+SolvedOn L a (Err e) = ShortOn L a e.from e.to (listed e.pillars) e.total

@@ -2,6 +2,7 @@
 use Rattle.std.specs.Prelude.{◌≡◌, ℕ, ◌<◌, List, length, Ok, Err, Result, slice_index, slice_index_or}
 use Rattle.chains.specs.Measures.{no_steps, add_steps, fewer, Steps}
 use Rattle.chains.specs.Chains.{BestFound}
+use Rattle.chains.specs.Pillars.{listed}
 use Rattle.network.specs.declared.answer.Chain.{Chain}
 use Rattle.network.specs.declared.line.Problem.{Problem}
 use Rattle.network.specs.Line.{Line, Highest, Tight, Start, TooLow, steps_of}
@@ -33,4 +34,4 @@ pub record HeldDown (P : Problem) (first best : List Steps) (before : List ℕ) 
 -- what the problem on a line answers
 abbrev pub Solved : Line → Result (List ℕ) Chain → Type 0
 Solved l (Ok xs) = Highest l (λ j. slice_index xs j)
-Solved l (Err e) = Tight l e.from e.to e.pillars.items e.total
+Solved l (Err e) = Tight l e.from e.to (listed e.pillars) e.total

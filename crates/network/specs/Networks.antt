@@ -1,5 +1,6 @@
 -- What the code's networks and answers stand for. Assumes nothing.
 use Rattle.std.specs.Prelude.{◌≡◌, ℕ, ◌<◌, ◌≤◌, reverse, ℤ, pos, Ok, Err, Result, slice_index_or}
+use Rattle.chains.specs.Pillars.{listed}
 use Rattle.network.specs.declared.shape.Network.{Network}
 use Rattle.network.specs.declared.answer.Positions.{Positions}
 use Rattle.network.specs.declared.answer.ShortChain.{ShortChain}
@@ -27,23 +28,21 @@ pub record Placed (L : Layout) (P : Positions) : Type 0 where
 
 -- A chain that is too short, from the lower point to the higher by number; and no positions whatsoever meet the network.
 pub record ShortTold (L : Layout) (e : ShortChain) : Type 0 where
-  pub chain : Short L e.chain.from e.chain.to e.chain.pillars.items e.gap e.chain.total
+  pub chain : Short L e.chain.from e.chain.to (listed e.chain.pillars) e.gap e.chain.total
   pub order : e.chain.from < e.chain.to
   pub none : (position : ℕ → ℤ × ℤ) → Meets L position → ⊥
 
 -- what both axes answer: the greatest positions, or a chain that is too short
 abbrev pub SolvedBoth : Layout → Result Positions Chain → Type 0
 SolvedBoth L (Ok P) = Placed L P
-SolvedBoth L (Err e) = Short L e.from e.to e.pillars.items (apart (L.point e.from) (L.point e.to)) e.total
+SolvedBoth L (Err e) = Short L e.from e.to (listed e.pillars) (apart (L.point e.from) (L.point e.to)) e.total
 
--- the same chain from its other end
-abbrev pub turned_chain : Chain → Chain
-turned_chain e = record {
-  from = e.to;
-  to = e.from;
-  total = e.total;
-  pillars = record { items = reverse e.pillars.items };
-}
+-- d is the chain e from its other end
+pub record Turned (e d : Chain) : Type 0 where
+  pub from : d.from ≡ e.to
+  pub to : d.to ≡ e.from
+  pub total : d.total ≡ e.total
+  pub pillars : listed d.pillars ≡ reverse (listed e.pillars)
 
 -- what a fit answers
 abbrev pub Fitted : Network → Result Positions Unfit → Type 0

@@ -1,5 +1,6 @@
 // The greatest positions of a network's pillars, or a chain that is too short.
 ghost use Rattle.std.specs.Prelude.{◌≡◌, ℕ, ◌<◌, pos, Err, slice_index_or};
+ghost use Rattle.chains.specs.Pillars.{listed};
 ghost use Rattle.network.specs.Layout.{apart};
 ghost use Rattle.network.specs.Chain.{Short};
 ghost use Rattle.network.specs.Networks.{network_layout, SolvedBoth, Fitted};
@@ -39,7 +40,7 @@ impl Checked<'_> {
     // The chain as it is told: from the point with the lower number, and with the gap between its points.
     fn told(&self, chain: Chain) -> ShortChain
         requires { SolvedBoth (network_layout self.now.network) (Err chain) }
-        ensures chain { Short (network_layout self.now.network) result.chain.from result.chain.to result.chain.pillars.items result.gap result.chain.total }
+        ensures chain { Short (network_layout self.now.network) result.chain.from result.chain.to (listed result.chain.pillars) result.gap result.chain.total }
         ensures order { result.chain.from < result.chain.to }
     {
         let chain = if chain.from < chain.to {
@@ -51,6 +52,17 @@ impl Checked<'_> {
         let gap = length_between(points[chain.from as usize], points[chain.to as usize]);
         ShortChain { chain, gap }
     }
+
+    // The greatest positions, or the chain as it is told.
+    fn fitted(&self) -> Result<Positions, Unfit>
+        ensures { Fitted self.now.network result }
+    {
+        // not by `map_err`, whose closure would have to require what `told` requires
+        match self.solve() {
+            Ok(positions) => Ok(positions),
+            Err(chain) => Err(Unfit::TooShort(self.told(chain))),
+        }
+    }
 }
 
 // The greatest positions in the field that meet the network. Where none meet it, a chain between two points that is too short, told from the point
@@ -58,10 +70,9 @@ impl Checked<'_> {
 pub fn fit(network: &Network) -> Result<Positions, Unfit>
     ensures { Fitted network.now result }
 {
-    let checked = Checked::try_from(*network)?;
-    // not by `map_err`, whose closure would have to require what `told` requires
-    match checked.solve() {
-        Ok(positions) => Ok(positions),
-        Err(chain) => Err(Unfit::TooShort(checked.told(chain))),
+    // not by `?` (tried): the check loses the ghost field of `Checked` on the way, since its error is copied
+    match Checked::try_from(*network) {
+        Ok(checked) => checked.fitted(),
+        Err(unfit) => Err(unfit),
     }
 }

@@ -6,6 +6,7 @@ ghost use Rattle.network.specs.Tables.{Shaped};
 
 use super::answer::Chain;
 use chains::measure::{Measure, Steps};
+use chains::pillars::Pillars;
 use chains::read::chain_to;
 use chains::search::{BestChains, best_chains};
 use std::array;
@@ -102,6 +103,7 @@ impl Pillar<'_> {
 impl Problem<'_> {
     ghost use Rattle.std.specs.Prelude.{ℕ, MatchOption, slice_index_or};
     ghost use Rattle.chains.specs.Measures.{no_steps};
+    ghost use Rattle.chains.specs.Pillars.{listed};
     ghost use Rattle.network.specs.Line.{Start, Tight};
     ghost use Rattle.network.specs.Lines.{line_of, HeldDown, Solved};
 
@@ -140,9 +142,9 @@ impl Problem<'_> {
     }
 
     // The chain that holds the pillar of `low` down, from the point that gave its first pillar its start value.
-    fn holding_chain(&self, first: &[Steps], best: &BestChains<Steps>, low: Low) -> Chain
+    fn holding_chain(&self, first: &[Steps], best: &BestChains<[Steps; 12]>, low: Low) -> Chain
         requires { HeldDown self.now first.now best.now.values best.now.before low.point low.pillar }
-        ensures { Tight (line_of self.now) result.from result.to result.pillars.items result.total }
+        ensures { Tight (line_of self.now) result.from result.to (listed result.pillars) result.total }
     {
         let Some(pillars) = chain_to(&best.before, low.pillar as u8) else {
             unreachable()
@@ -156,7 +158,7 @@ impl Problem<'_> {
             from: from as u8,
             to: low.point as u8,
             total,
-            pillars,
+            pillars: Pillars::from(pillars),
         }
     }
 

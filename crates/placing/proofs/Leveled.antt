@@ -4,6 +4,7 @@ use native.Mathlib.Nat.{sub-zero}
 use Rattle.std.specs.List.{AllByRecursion}
 use Rattle.std.proofs.lemmas.List.{get_or-take, take-map, length-map, length-take}
 use Rattle.std.proofs.lemmas.Int.{ints}
+use Rattle.chains.specs.Pillars.{listed}
 use Rattle.network.specs.declared.answer.Positions.{Positions}
 use Rattle.network.specs.declared.answer.ShortChain.{ShortChain}
 use Rattle.network.specs.Networks.{position_in}
@@ -28,10 +29,10 @@ use Rattle.placing.specs.Steps.{Placed}
 pub forced_floor : (F : InForce) (start L : ℕ) (r : Run) (below : Option ShortChain) → FirstWith (λ s. (run_terms F s).fixed ≡ start) (runs_of F) r →
     Forced F start L below → NoneLower F L
 forced_floor F start L r None first e = subst (NoneLower F) (sym e) (fixed_floor F start r first)
-forced_floor F start L r (Some c) first (h, W) = chain_floor F L c.chain.from c.chain.to c.gap c.chain.total c.chain.pillars.items (omega arith) W
+forced_floor F start L r (Some c) first (h, W) = chain_floor F L c.chain.from c.chain.to c.gap c.chain.total (listed c.chain.pillars) (omega arith) W
 
 pub clash_refuses : (F : InForce) (c : ShortChain) → ChainShort F (run_limit F) c → NoneKeeps F
-clash_refuses F c W = clash_none F c.chain.from c.chain.to c.gap c.chain.total c.chain.pillars.items W
+clash_refuses F c W = clash_none F c.chain.from c.chain.to c.gap c.chain.total (listed c.chain.pillars) W
 
 pub found_placed : (F : InForce) (L : ℕ) (P : Placing) → NoneLower F L → Found F L P → Placed F L P
 found_placed F L P none f = record {

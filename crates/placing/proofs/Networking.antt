@@ -8,6 +8,7 @@ use Rattle.std.proofs.lemmas.List.{get_or_default}
 use Rattle.std.proofs.lemmas.List.Folds.{Any-from_list_any}
 use Rattle.std.specs.Ordering.{int_eq}
 use Rattle.chains.specs.Measures.{Steps}
+use Rattle.chains.specs.Pillars.{listed}
 use Rattle.network.specs.declared.answer.Positions.{Positions}
 use Rattle.network.specs.declared.answer.ShortChain.{ShortChain}
 use Rattle.network.specs.Layout.{Between}
@@ -131,4 +132,4 @@ module _ (F : InForce) (grid : (m : ℕ) → on_grid F m ≡ true) where
 
     pub fits_short : (c : ShortChain) → ShortTold (layout_of points feeders links) c → FitsAt F L (Err c)
     fits_short c S =
-        told_from F (reach_of F L) (layout_of points feeders links) models c.chain.from c.chain.to c.chain.pillars.items c.gap c.chain.total S.chain S.order
+        told_from F (reach_of F L) (layout_of points feeders links) models c.chain.from c.chain.to (listed c.chain.pillars) c.gap c.chain.total S.chain S.order

@@ -3,6 +3,7 @@ use Rattle.std.proofs.Common.{◌≡◌, ℕ, ◌+◌, ◌/◌, ◌<◌, ◌≤�
 use Rattle.std.specs.List.{AllByRecursion}
 use Rattle.std.proofs.lemmas.Int.{ints}
 use Rattle.chains.specs.Measures.{Steps}
+use Rattle.chains.specs.Pillars.{listed}
 use Rattle.network.specs.declared.answer.ShortChain.{ShortChain}
 use Rattle.network.specs.Chain.{AddTo}
 use Rattle.yard.specs.Force.{mast_at}
@@ -41,7 +42,7 @@ feet_far s t x y z w e f h = rw (e, f) h
 
 module _ (F : InForce) (c : ShortChain) (of : Run → Steps) (W : ChainShort F of c) where
   abbrev runs : List Run
-  runs = chain_runs c.chain.from c.chain.pillars.items c.chain.to
+  runs = chain_runs c.chain.from (listed c.chain.pillars) c.chain.to
 
   -- the same chain, with what its runs add up to by another measure
   pub by_other : (other : Run → Steps) (total : ℕ) → AddTo (map other runs) total → total < c.gap →

@@ -3,6 +3,7 @@ use Rattle.std.proofs.Common.{◌≡◌, ℕ, ◌-◌, ◌<◌, ◌≤◌, List,
 use Rattle.std.specs.List.{AllByRecursion}
 use Rattle.std.proofs.ByRecursion.{All-weaker}
 use Rattle.chains.specs.Measures.{Steps}
+use Rattle.chains.specs.Pillars.{listed}
 use Rattle.network.specs.declared.answer.ShortChain.{ShortChain}
 use Rattle.yard.specs.declared.force.InForce.{InForce}
 use Rattle.yard.specs.declared.force.Run.{Run}
@@ -16,14 +17,14 @@ use Rattle.placing.specs.Steps.{WhyStep}
 use Rattle.placing.proofs.Crowding.{few_different}
 
 -- a chain has no more pillars than the plan
-pub few_pillars : (F : InForce) (of : Run → Steps) (c : ShortChain) → ChainShort F of c → length c.chain.pillars.items ≤ F.count
-few_pillars F of c W = few_different F.count c.chain.pillars.items W.different W.in_plan
+pub few_pillars : (F : InForce) (of : Run → Steps) (c : ShortChain) → ChainShort F of c → length (listed c.chain.pillars) ≤ F.count
+few_pillars F of c W = few_different F.count (listed c.chain.pillars) W.different W.in_plan
 
 -- what Why answers, by what was settled
 module _ (F : InForce) (before : List ℕ) (ready : Ready F) (room : F.count ≤ length before) where
-  pub clash_told : (c : ShortChain) (after : List ℕ) → ChainShort F (run_limit F) c → after ≡ c.chain.pillars.items ++ drop (length c.chain.pillars.items) before →
+  pub clash_told : (c : ShortChain) (after : List ℕ) → ChainShort F (run_limit F) c → after ≡ listed c.chain.pillars ++ drop (length (listed c.chain.pillars)) before →
       WhyStep F before (Ok (Clash (told_of c))) after
-  clash_told c after W e = (ready, room, (c.chain.pillars.items, W, refl, e))
+  clash_told c after W e = (ready, room, (listed c.chain.pillars, W, refl, e))
 
   module _ (start L : ℕ) (fixed : Run) (least : LeastLevel F L) (first : FirstWith (λ r. (run_terms F r).fixed ≡ start) (runs_of F) fixed)
       (paid : AllByRecursion (λ r. (run_terms F r).fixed ≤ start) (runs_of F)) where
@@ -33,13 +34,13 @@ module _ (F : InForce) (before : List ℕ) (ready : Ready F) (room : F.count ≤
     pub fixed_told : 0 < L → L ≡ start → WhyStep F before (Ok (Fixed fixed)) before
     fixed_told h e = (ready, room, ([], (L, least, (h, subst (λ n. FirstWith (λ r. (run_terms F r).fixed ≡ n) (runs_of F) fixed) (sym e) first)), refl, refl))
 
-    pub chain_told : (c : ShortChain) (after : List ℕ) → start < L → ChainShort F (reach_of F (L - 1)) c → after ≡ c.chain.pillars.items ++ drop (length c.chain.pillars.items) before →
+    pub chain_told : (c : ShortChain) (after : List ℕ) → start < L → ChainShort F (reach_of F (L - 1)) c → after ≡ listed c.chain.pillars ++ drop (length (listed c.chain.pillars)) before →
         WhyStep F before (Ok (Chain (told_of c))) after
     chain_told c after h W e = (
       ready,
       room,
       (
-        c.chain.pillars.items,
+        listed c.chain.pillars,
         (L, least, (omega arith, All-weaker (λ r. (run_terms F r).fixed ≤ start) (λ r. (run_terms F r).fixed ≡ L → ⊥) (λ r k f. omega (arith, k, f, h)) (runs_of F) paid, W)),
         refl,
         e,

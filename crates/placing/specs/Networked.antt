@@ -1,5 +1,6 @@
 -- A plan's masts and runs as the network of a level.
 use Rattle.std.specs.Prelude.{◌≡◌, ℕ, ◌<◌, length, Ok, Err, Option, Result}
+use Rattle.chains.specs.Pillars.{listed}
 use Rattle.network.specs.declared.answer.Positions.{Positions}
 use Rattle.network.specs.declared.answer.ShortChain.{ShortChain}
 use Rattle.network.specs.Networks.{position_in}
@@ -23,4 +24,4 @@ abbrev pub FitsAt : InForce → ℕ → Result Positions ShortChain → Type 0
 FitsAt F L (Ok at) =
     ((j : ℕ) → j < F.count → Near (position_in at j))
     × ((P : Placing) → length P ≡ F.count → ReadAs F P (position_in at) → Found F L P)
-FitsAt F L (Err c) = TooShort F (reach_of F L) c.chain.from c.chain.to c.gap c.chain.total c.chain.pillars.items
+FitsAt F L (Err c) = TooShort F (reach_of F L) c.chain.from c.chain.to c.gap c.chain.total (listed c.chain.pillars)

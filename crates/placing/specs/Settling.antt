@@ -2,6 +2,7 @@
 use Rattle.std.specs.Prelude.{◌≡◌, ℕ, ◌-◌, ◌<◌, ◌≤◌, length, Some, None, Ok, Err, Option, Result}
 use Rattle.std.specs.List.{AllByRecursion}
 use Rattle.chains.specs.Measures.{Steps}
+use Rattle.chains.specs.Pillars.{listed}
 use Rattle.network.specs.declared.answer.ShortChain.{ShortChain}
 use Rattle.yard.specs.declared.force.InForce.{InForce}
 use Rattle.yard.specs.declared.force.Run.{Run}
@@ -15,7 +16,7 @@ use Rattle.placing.specs.Networked.{FitsAt}
 
 -- a chain that is too short
 abbrev pub ChainShort : InForce → (Run → Steps) → ShortChain → Type 0
-ChainShort F of c = TooShort F of c.chain.from c.chain.to c.gap c.chain.total c.chain.pillars.items
+ChainShort F of c = TooShort F of c.chain.from c.chain.to c.gap c.chain.total (listed c.chain.pillars)
 
 -- a higher level, below which the chain is still too short; or the chain is too short by its limits
 abbrev pub RaisesTo : InForce → ℕ → Result Raised ShortChain → Type 0
@@ -46,4 +47,4 @@ SolvedBy F (Err c) = ChainShort F (run_limit F) c
 
 -- a chain as it is told
 abbrev pub told_of : ShortChain → ChainTold
-told_of c = record { from = c.chain.from; to = c.chain.to; gap = c.gap; total = c.chain.total; count = length c.chain.pillars.items }
+told_of c = record { from = c.chain.from; to = c.chain.to; gap = c.gap; total = c.chain.total; count = length (listed c.chain.pillars) }

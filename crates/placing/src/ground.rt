@@ -5,7 +5,7 @@ ghost use Rattle.network.specs.Tables.{point_in};
 ghost use Rattle.yard.specs.Force.{mast_at};
 ghost use Rattle.yard.specs.declared.force.Mast.{Mast as MastIn};
 ghost use Rattle.runs.specs.Spots.{SomeMast, point_reading};
-ghost use Rattle.placing.specs.Feet.{FeetOf, feet_with, some_reads};
+ghost use Rattle.placing.specs.Feet.{FeetOf, feet_with, point_for, some_reads};
 
 use arrayvec::ArrayVec;
 use yard::force::Point;
@@ -13,9 +13,9 @@ use yard::plan::Plan;
 
 // The point of a standing mast, and one more than the number of the last one.
 #[derive(Clone, Copy)]
-struct Feet {
-    first: Point,
-    span: usize,
+pub(crate) struct Feet {
+    pub first: Point,
+    pub span: usize,
 }
 
 // The feet found so far and the mast m.
@@ -30,7 +30,7 @@ fn with_mast(found: Option<Feet>, m: usize, at: Point) -> Feet
 }
 
 // Where the masts stand, if one does.
-fn find_feet(plan: &Plan) -> Option<Feet>
+pub(crate) fn find_feet(plan: &Plan) -> Option<Feet>
     ensures { MatchOption result (SomeMast plan.now.force → ⊥) (FeetOf plan.now.force) }
 {
     let mut found = None;
@@ -62,16 +62,17 @@ pub(crate) struct Ground<'a> {
 }
 
 impl<'a> Ground<'a> {
-    // The ground of a plan, if a mast stands on it.
-    pub(crate) fn of(plan: &'a Plan) -> Option<Ground<'a>>
-        ensures { MatchOption result (SomeMast plan.now.force → ⊥) (λ g. (g.plan.now ≡ plan.now) × SomeMast plan.now.force) }
+    // The ground of a plan whose masts stand so: each number whose mast does not stand has the reading of the one mast at `first`.
+    pub(crate) fn of(plan: &'a Plan, feet: Feet) -> Ground<'a>
+        requires { FeetOf plan.now.force feet }
+        ensures plan { result.plan.now ≡ plan.now }
+        ensures points { (length result.points.items ≡ feet.span) × ((i : ℕ) → i < feet.span → point_in result.points.items i ≡ point_for plan.now.force feet.first i) }
     {
-        let feet = find_feet(plan)?;
         let mut points = ArrayVec::new();
         for mast in &plan.masts()[0..feet.span] {
             let at = mast.as_ref().map_or(feet.first, |mast| mast.at);
             points.push(reading(at));
         }
-        Some(Ground { plan, points })
+        Ground { plan, points }
     }
 }

@@ -22,7 +22,7 @@ pub fn place(plan: &Plan, list: &mut [i32]) -> Result<u32, PlaceFault>
     let Ok(solved) = ground.find_level() else {
         return Err(PlaceFault::Unkept);
     };
-    let sites = sites_of(&solved.settled.positions);
+    let sites = sites_of(&solved.settled.positions, count);
     let Some(top) = dearest(plan, Some(&sites)) else {
         unreachable()
     };

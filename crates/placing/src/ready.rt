@@ -6,7 +6,7 @@ ghost use Rattle.placing.specs.Refusals.{barred_refusal};
 ghost use Rattle.placing.specs.Steps.{Bars};
 
 use crate::fault::Barred;
-use crate::ground::Ground;
+use crate::ground::{Ground, find_feet};
 use runs::loose::lowest_loose;
 use yard::plan::Plan;
 
@@ -17,9 +17,10 @@ pub(crate) fn ready(plan: &Plan, need: usize, room: usize) -> Result<Ground<'_>,
     if room < need {
         return Err(Barred::Room);
     }
-    let ground = Ground::of(plan).ok_or(Barred::NoMast)?;
+    let feet = find_feet(plan).ok_or(Barred::NoMast)?;
+    // the points are made last: a plan that is refused needs none
     match lowest_loose(plan) {
         Some(pillar) => Err(Barred::Loose(pillar)),
-        None => Ok(ground),
+        None => Ok(Ground::of(plan, feet)),
     }
 }

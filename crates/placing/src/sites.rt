@@ -9,6 +9,7 @@ ghost use Rattle.runs.specs.Dearest.{spots_of};
 ghost use Rattle.placing.specs.Steps.{halves_of};
 
 use network::answer::Positions;
+use std::array;
 use yard::site::Site;
 
 // The site with a reading, or the origin where the reading is too far.
@@ -19,14 +20,20 @@ fn site_of(reading: (i32, i32), origin: Site) -> Site
     Site::with_reading(sum, difference).unwrap_or(origin)
 }
 
-// The sites with the readings of the pillars.
-pub(crate) fn sites_of(positions: &Positions) -> [Site; 12]
-    ensures { (j : ℕ) → j < 12 → Near (position_in positions.now j) → IsReading (site_at (spots_of result) j).hx (site_at (spots_of result) j).hy (position_in positions.now j) }
+// The sites with the readings of the first n pillars.
+pub(crate) fn sites_of(positions: &Positions, n: usize) -> [Site; 12]
+    ensures { (j : ℕ) → j < n → j < 12 → Near (position_in positions.now j) → IsReading (site_at (spots_of result) j).hx (site_at (spots_of result) j).hy (position_in positions.now j) }
 {
     let Some(origin) = Site::at(0, 0) else {
         unreachable()
     };
-    positions.readings.map(|reading| site_of(reading, origin))
+    array::from_fn(|p| {
+        if p < n {
+            site_of(positions.readings[p], origin)
+        } else {
+            origin
+        }
+    })
 }
 
 // The halves of each site at the head of the list, written by their places: what is written through `chunks_exact_mut` is not known to the proof.

@@ -1,6 +1,7 @@
 // Why: the reason that a plan allows no lower level, or none at all.
 
 ghost use Rattle.std.specs.Prelude.{◌≡◌, ℕ, ◌-◌, ◌<◌, ◌≤◌, List, ◌++◌, length, drop, Result as ResultOf};
+ghost use Rattle.chains.specs.Pillars.{listed};
 ghost use Rattle.yard.specs.declared.fault.Refusal.{Refusal as RefusalTold};
 ghost use Rattle.placing.specs.Refusals.{why_told};
 ghost use Rattle.placing.specs.Steps.{WhyStep};
@@ -15,10 +16,10 @@ use yard::plan::Plan;
 
 // The chain as it is told, with its pillars at the head of the list.
 fn tell(short: &ShortChain, list: &mut [u8]) -> ChainTold
-    requires few { length short.now.chain.pillars.items ≤ length list.old }
+    requires few { length (listed short.now.chain.pillars) ≤ length list.old }
     requires near { (short.now.gap ≤ 200000) × (short.now.chain.total < short.now.gap) }
     ensures chain { result ≡ told_of short.now }
-    ensures list { list.new ≡ short.now.chain.pillars.items ++ drop (length short.now.chain.pillars.items) list.old }
+    ensures list { list.new ≡ listed short.now.chain.pillars ++ drop (length (listed short.now.chain.pillars)) list.old }
 {
     let pillars = short.chain.pillars.as_slice();
     list[0..pillars.len()].copy_from_slice(pillars);

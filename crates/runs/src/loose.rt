@@ -36,9 +36,10 @@ fn entry(plan: &Plan, p: usize) -> Tied
 
 // The value of entering at each pillar.
 fn entries(plan: &Plan) -> [Tied; 12]
-    ensures { (p : ℕ) → p < 12 → value_at no_tie result p ≡ of_yes (is_fed plan.now.force p) }
+    ensures { (p : ℕ) → p < plan.now.force.count → value_at no_tie result p ≡ of_yes (is_fed plan.now.force p) }
 {
-    array::from_fn(|p| entry(plan, p))
+    let n = plan.pillars() as usize;
+    array::from_fn(|p| { if p < n { entry(plan, p) } else { Tied::none() } })
 }
 
 // The first pillar whose best chain does not tie.

@@ -11,7 +11,6 @@ ghost use Rattle.runs.specs.Pricing.{reach_at};
 
 use crate::pricing::reach;
 use chains::measure::{Measure, Steps, Tied};
-use std::array;
 use yard::force::Terms;
 use yard::plan::Plan;
 
@@ -43,13 +42,17 @@ impl Worth for Tied {
     }
 }
 
-// What the links of a pillar to each pillar are worth.
+// What the links of a pillar to each pillar are worth. (`from_fn` was tried: over all twelve, Place of a small plan took twice the time, and with a test in its closure, Place took up to a quarter more instructions.)
 fn link_row<M: Worth>(plan: &Plan, level: u32, p: usize) -> [M; 12]
     requires { p < 12 }
     ensures { (q : ℕ) → q < plan.now.force.count → slice_index_or result q M.Measure.empty ≡ M.worth (run_terms plan.now.force (link_run p q)) level }
 {
     let rows = plan.links();
-    array::from_fn(|q| M::of(rows[p.min(q)][p.max(q)], level))
+    let mut row = [M::none(); 12];
+    for (q, value) in row[..plan.pillars() as usize].iter_mut().enumerate() {
+        *value = M::of(rows[p.min(q)][p.max(q)], level);
+    }
+    row
 }
 
 // What the links between each two pillars are worth: a row for each pillar, in an array without the heap, cut to the pillars where it is read.
@@ -58,7 +61,7 @@ pub fn link_rows<M: Worth>(plan: &Plan, level: u32) -> [[M; 12]; 12]
 {
     // not by `from_fn`: in its closure it is not known that a row of any measure fits in memory
     let mut rows = [[M::none(); 12]; 12];
-    for (p, row) in rows.iter_mut().enumerate() {
+    for (p, row) in rows[..plan.pillars() as usize].iter_mut().enumerate() {
         *row = link_row(plan, level, p);
     }
     rows

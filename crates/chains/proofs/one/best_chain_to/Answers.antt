@@ -15,4 +15,4 @@ pub returns : goal.returns
 returns g c =
     let m = g.M.Measure in
     let T = c.in_ok-search.ensures in
-    (record { plan = T.0; pillar = c.if-v-first.false }, best_read m.op (value_at m.empty c.args.first.now) (run_at m.empty c.args.runs.now) m.leq (length c.args.first.now) (value_at m.empty c.search.new.best) c.search.new.before T.1 c.args.v c.if-v-first.false (get_or c.search.new.best c.args.v c.index-values-v.result) (get_or_read c.search.new.best c.args.v (get_or c.search.new.best c.args.v c.index-values-v.result) (omega (arith, T.0.few)) (ap (get_or c.search.new.best c.args.v) c.index-values-v.is) m.empty) c.in-Some.pillars.items c.in-Some.ensures.0)
+    (record { plan = T.0; pillar = c.if-v-first.false }, rw c.from.ensures (best_read m.op (value_at m.empty c.args.first.now) (run_at m.empty c.args.runs.now) m.leq (length c.args.first.now) (value_at m.empty c.search.new.best) c.search.new.before T.1 c.args.v c.if-v-first.false (get_or c.search.new.best c.args.v c.index-values-v.result) (get_or_read c.search.new.best c.args.v (get_or c.search.new.best c.args.v c.index-values-v.result) (omega (arith, T.0.few)) (ap (get_or c.search.new.best c.args.v) c.index-values-v.is) m.empty) c.in-Some.pillars.items c.in-Some.ensures.0))

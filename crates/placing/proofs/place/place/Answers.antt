@@ -32,7 +32,7 @@ placed c =
     let S = subst (λ (P : Plan). SolvedAt P.force c.in-Ok.solved) c.in_ok-ground.ensures.0 c.in-Ok.ensures in
     let s = c.in-Ok.solved in
     let many : c.pillars-count.result ≤ length c.sites_of-sites.result = search rules in
-    let read = λ (j : ℕ) (h : j < c.pillars-count.result). c.sites_of-sites.ensures j (omega (arith, h, c.pillars-count.ensures, c.args.plan.now.counted.1)) (S.settled_from.1.0 j (omega (arith, h, c.pillars-count.ensures))) in
+    let read = λ (j : ℕ) (h : j < c.pillars-count.result). c.sites_of-sites.ensures j h (omega (arith, h, c.pillars-count.ensures, c.args.plan.now.counted.1)) (S.settled_from.1.0 j (omega (arith, h, c.pillars-count.ensures))) in
     let is = placed_at F S.start s.settled.level.cents s.fixed s.settled.below s.settled.positions c.sites_of-sites.result c.pillars-count.result c.in-Some.top.cents
     S.dearest_fixed S.settled_from.0 S.settled_from.1 c.pillars-count.ensures many read c.in-Some.ensures.0 in
     (omega (arith, is.0, s.settled.level.bounded), is.1)

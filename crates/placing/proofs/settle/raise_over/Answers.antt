@@ -1,4 +1,5 @@
 use Rattle.std.proofs.Common.{◌≡◌, map}
+use Rattle.chains.specs.Pillars.{listed}
 use Rattle.runs.specs.Order.{run_terms}
 use Rattle.runs.specs.Shortness.{chain_runs, run_limit, reach_of}
 use Rattle.placing.proofs.Raising.{by_other, to_runs, from_runs, by_limits}
@@ -6,7 +7,7 @@ use Rattle.placing.proofs.settle.raise_over.Goals as goal
 use Rattle.placing.proofs.settle.raise_over.Goals.{After-as_slice-2}
 
 terms_are : (c : After-as_slice-2) → c.as_slice-2.result.now
-    ≡ map (run_terms c.args.plan.now.force) (chain_runs c.args.short.chain.from c.args.short.chain.pillars.items c.args.short.chain.to)
+    ≡ map (run_terms c.args.plan.now.force) (chain_runs c.args.short.chain.from (listed c.args.short.chain.pillars) c.args.short.chain.to)
 terms_are c = rw (c.as_slice-2.ensures.value, ← c.as_slice.ensures.value) (c.chain_terms-terms.ensures)
 
 pub paying_level-requires : goal.paying_level-requires

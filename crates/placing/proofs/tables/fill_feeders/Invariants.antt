@@ -6,4 +6,4 @@ use Rattle.placing.proofs.tables.fill_feeders.Given as goal
 
 abbrev pub invariant-loop-m : goal.invariant-loop-m
 invariant-loop-m l =
-    (k : ℕ) → k < l.m → (p : ℕ) → p < 12 → reach_in l.rows k p ≡ mast_reach (mast_at l.plan.force k) l.level p
+    (k : ℕ) → k < l.m → (p : ℕ) → p < l.plan.force.count → reach_in l.rows k p ≡ mast_reach (mast_at l.plan.force k) l.level p

@@ -20,7 +20,7 @@ returns c =
     let enough : n ≤ length entries = search rules in
     let best = take (n - 0) t.values in
     let before = take (n - 0) t.before in
-    let found = found_in_front no_tie both_tied rather (value_at no_tie first) (run_at no_tie rows) (length first) (n - 0) t.values t.before (omega arith) c.in-Ok.ensures.1 in
+    let found = found_in_front no_tie both_tied rather (value_at no_tie first) (run_at no_tie rows) (length first) (n - 0) t.values t.before (omega arith) c.in-Ok.ensures.found.1 in
     lowest_found F (value_at no_tie first) (run_at no_tie rows) (λ p u. front_at entries n p no_tie no_tie (omega (arith, c.pillars-n.ensures)) enough ∙ c.entries-entries.ensures p (omega (arith, c.pillars-n.ensures)))
     (λ p q u v. front_row table n p q no_tie (omega (arith, c.pillars-n.ensures)) many ∙ c.link_rows-links.ensures p q u v)
     (value_at no_tie best) (pillar_at before) (rw long at found) (length best) (omega arith) c.first_untied.result c.first_untied.ensures

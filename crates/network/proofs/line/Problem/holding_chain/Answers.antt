@@ -36,4 +36,4 @@ returns c =
     let same : c.deref.result.now ≡ c.in-Some.pillars.items = c.deref.ensures.0 in
     let within = rw c.pillar.ensures.line at c.giver-from.ensures.within in
     let gives = rw (c.pillar.ensures.line, c.pillar.ensures.number, same) at c.giver-from.ensures.gives in
-    rw (c.steps_in.ensures ∙ steps_default c.args.best.now.values c.args.low.pillar, c.steps_in-2.ensures ∙ steps_default (slice_index_or c.args.self.now.feeders.now c.args.low.point []) c.args.low.pillar) (holding_tight c.requires c.in-Some.ensures.0 within (get_or_default c.args.first.now _ no_steps None (first_in c.requires c.in-Some.ensures.0) ∙ gives))
+    rw (c.from.ensures, c.steps_in.ensures ∙ steps_default c.args.best.now.values c.args.low.pillar, c.steps_in-2.ensures ∙ steps_default (slice_index_or c.args.self.now.feeders.now c.args.low.point []) c.args.low.pillar) (holding_tight c.requires c.in-Some.ensures.0 within (get_or_default c.args.first.now _ no_steps None (first_in c.requires c.in-Some.ensures.0) ∙ gives))

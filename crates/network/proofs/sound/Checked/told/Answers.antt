@@ -8,5 +8,5 @@ returns-clause-chain c =
     let N = c.args.self.now.network in
     rw c.length_between-gap.ensures (elim c.if-chain.branch [
       | then-chain w ↦ rw w.chain-is c.requires
-      | else-chain w ↦ rw (w.chain-is, w.turned-chain.ensures) (solved_turned (network_layout N) c.args.self.now.sound.even c.args.chain c.requires)
+      | else-chain w ↦ rw w.chain-is (solved_turned (network_layout N) c.args.self.now.sound.even c.args.chain w.turned-chain.result w.turned-chain.ensures c.requires)
     ])

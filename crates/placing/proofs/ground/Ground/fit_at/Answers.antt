@@ -40,7 +40,7 @@ module _ (c : After-fit) where
 
   feeder_is : (m p : ℕ) → m < length feeders → p < c.args.self.now.plan.now.force.count → reach_in feeders m p ≡ mast_reach (mast_at c.args.self.now.plan.now.force m) c.args.level p
   unfolding feeders points
-  feeder_is m p u v = c.fill_feeders.ensures m p u (search rules)
+  feeder_is m p u v = c.fill_feeders.ensures m p u v
 
   link_is : (p q : ℕ) → p < c.args.self.now.plan.now.force.count → q < c.args.self.now.plan.now.force.count → reach_in links p q ≡ reach_of c.args.self.now.plan.now.force c.args.level (Link p q)
   unfolding links
