@@ -105,40 +105,6 @@ fn told_bytes(kind: AnswerKind, told: Told) -> Option<FrameBytes>
     Some(bytes)
 }
 
-// The bytes of an answer before its check byte; nothing where a chain has no room.
-fn answer_frame(answer: Answer) -> Option<FrameBytes>
-    ensures { MatchOption result (32 < length (answer_bytes answer.entry)) (λ b. b.items ≡ answer_bytes answer.entry) }
-{
-    let bytes = match answer {
-        Answer::Taken => coded(AnswerKind::Taken as u8, &[]),
-        Answer::Refused { number, place } => coded(
-            AnswerKind::Refused as u8,
-            &[Byte(number), Byte(place)],
-        ),
-        Answer::Level { cents } => coded(AnswerKind::Level as u8, &[Word(cents)]),
-        Answer::Site { pillar, hx, hy } => coded(
-            AnswerKind::Site as u8,
-            &[Byte(pillar), Signed(hx), Signed(hy)],
-        ),
-        Answer::Floor => coded(AnswerKind::Floor as u8, &[]),
-        Answer::Fixed { run } => coded(AnswerKind::Fixed as u8, &fields_of_run(run)),
-        Answer::Chain(told) => told_bytes(AnswerKind::Chain, told)?,
-        Answer::Clash(told) => told_bytes(AnswerKind::Clash, told)?,
-        Answer::RunPriced { run, length, cents } => {
-            let [class, one, other] = fields_of_run(run);
-            coded(
-                AnswerKind::RunPriced as u8,
-                &[class, one, other, Word(length), Word(cents)],
-            )
-        }
-        Answer::MastSeen { mast, length } => coded(
-            AnswerKind::MastSeen as u8,
-            &[Byte(mast), Word(length)],
-        ),
-    };
-    Some(bytes)
-}
-
 // `char::from_digit` and the crate `hex` give small letters.
 const DIGITS: &[u8; 16] = b"0123456789ABCDEF";
 
@@ -165,6 +131,8 @@ fn line_of(frame: &[u8]) -> ArrayVec<u8, 65>
 }
 
 // Some bytes, closed by their check byte, as a line at the head of `out`, and how many bytes that takes.
+// Inlined at each frame: how long a frame is is known there, and a frame of no fields is a constant line.
+#[inline]
 fn put_line(mut bytes: FrameBytes, out: &mut [u8]) -> Option<usize>
     ensures { Wrote (line_text bytes.items) out.old result out.new }
 {
@@ -183,19 +151,48 @@ fn put_line(mut bytes: FrameBytes, out: &mut [u8]) -> Option<usize>
 pub fn write_call(call: Call, out: &mut [u8]) -> Option<usize>
     ensures { Wrote (line_text (call_bytes call)) out.old result out.new }
 {
-    let bytes = match call {
-        Call::Edit(edit) => edit_frame(edit),
-        Call::Place => coded(CallKind::Place as u8, &[]),
-        Call::Why => coded(CallKind::Why as u8, &[]),
-        Call::Dearest { k } => coded(CallKind::Dearest as u8, &[Byte(k)]),
-        Call::Nearest { pillar, k } => coded(CallKind::Nearest as u8, &[Byte(pillar), Byte(k)]),
-    };
-    put_line(bytes, out)
+    match call {
+        Call::Edit(edit) => put_line(edit_frame(edit), out),
+        Call::Place => put_line(coded(CallKind::Place as u8, &[]), out),
+        Call::Why => put_line(coded(CallKind::Why as u8, &[]), out),
+        Call::Dearest { k } => put_line(coded(CallKind::Dearest as u8, &[Byte(k)]), out),
+        Call::Nearest { pillar, k } => {
+            let bytes = coded(CallKind::Nearest as u8, &[Byte(pillar), Byte(k)]);
+            put_line(bytes, out)
+        }
+    }
 }
 
 // An answer as a line at the head of `out`; the bytes that it takes, or nothing where it has no room.
 pub fn write_answer(answer: Answer, out: &mut [u8]) -> Option<usize>
     ensures { Wrote (line_text (answer_bytes answer.entry)) out.old result out.new }
 {
-    put_line(answer_frame(answer)?, out)
+    match answer {
+        Answer::Taken => put_line(coded(AnswerKind::Taken as u8, &[]), out),
+        Answer::Refused { number, place } => {
+            let bytes = coded(AnswerKind::Refused as u8, &[Byte(number), Byte(place)]);
+            put_line(bytes, out)
+        }
+        Answer::Level { cents } => put_line(coded(AnswerKind::Level as u8, &[Word(cents)]), out),
+        Answer::Site { pillar, hx, hy } => {
+            let bytes = coded(
+                AnswerKind::Site as u8,
+                &[Byte(pillar), Signed(hx), Signed(hy)],
+            );
+            put_line(bytes, out)
+        }
+        Answer::Floor => put_line(coded(AnswerKind::Floor as u8, &[]), out),
+        Answer::Fixed { run } => put_line(coded(AnswerKind::Fixed as u8, &fields_of_run(run)), out),
+        Answer::Chain(told) => put_line(told_bytes(AnswerKind::Chain, told)?, out),
+        Answer::Clash(told) => put_line(told_bytes(AnswerKind::Clash, told)?, out),
+        Answer::RunPriced { run, length, cents } => {
+            let [class, one, other] = fields_of_run(run);
+            let fields = [class, one, other, Word(length), Word(cents)];
+            put_line(coded(AnswerKind::RunPriced as u8, &fields), out)
+        }
+        Answer::MastSeen { mast, length } => {
+            let bytes = coded(AnswerKind::MastSeen as u8, &[Byte(mast), Word(length)]);
+            put_line(bytes, out)
+        }
+    }
 }

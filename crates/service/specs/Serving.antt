@@ -58,10 +58,6 @@ pub record LineServed (F : InForce) (line : List ℕ) (r : Result (Unit {0}) Ser
   pub outcome_is : r ≡ outcome F reading
   pub after_is : G ≡ force_after F reading
 
--- a line's answer
-abbrev pub LineAnswered : InForce → List ℕ → Answer → InForce → Type 0
-LineAnswered F line a G = (r : Result (Unit {0}) ServeFault) × LineServed F line r G × (a ≡ reply r)
-
 -- serving a line into a buffer: under 512 bytes nothing is done, else the answer's line stands at its head
 abbrev pub Served : InForce → List ℕ → List ℕ → Result ℕ ServeFault → List ℕ → InForce → Type 0
 Served F line was (Ok n) now G =

@@ -6,9 +6,8 @@ ghost use Rattle.service.specs.Serving.{reply_text};
 ghost use Rattle.service.specs.Output.{Gives};
 
 use crate::fault::ServeFault;
-use crate::serve::{serve, told};
+use crate::serve::{serve, tell};
 use frames::lines::Lines;
-use frames::write::write_answer;
 use std::alloc::{AllocError, Global};
 use yard::plan::Plan;
 
@@ -20,7 +19,7 @@ fn refuse(output: &mut Vec<u8>) -> Result<(), AllocError>
     ensures { IfOk result (λ _. output.new.items ≡ output.old.items ++ reply_text (Err Memory)) }
 {
     let mut buffer = [0; 512];
-    let Some(count) = write_answer(told(ServeFault::Memory), &mut buffer) else {
+    let Some(count) = tell(Err(ServeFault::Memory), &mut buffer) else {
         unreachable()
     };
     output.extend_from_slice(&buffer[0..count])

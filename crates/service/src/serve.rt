@@ -2,7 +2,8 @@
 
 ghost use Rattle.std.specs.Prelude.{◌≡◌};
 ghost use Rattle.service.specs.Faults.{serve_refusal};
-ghost use Rattle.service.specs.Serving.{refused, LineServed, LineAnswered, Served};
+ghost use Rattle.frames.specs.Writing.{Wrote};
+ghost use Rattle.service.specs.Serving.{refused, reply_text, LineServed, Served};
 
 use crate::fault::ServeFault;
 use frames::answer::Answer;
@@ -14,7 +15,7 @@ use yard::fault::Refusal;
 use yard::plan::Plan;
 
 // Makes the call of a line; the calls other than edits are not served yet.
-// (The plan and the line are parameters here, of `answer` and of `serve`: a struct of both would live for one call, which is no plainer.)
+// (The plan and the line are parameters here and of `serve`: a struct of both would live for one call, which is no plainer.)
 fn make(plan: &mut Plan, line: &[u8]) -> Result<(), ServeFault>
     ensures { LineServed plan.old.force line.now result plan.new.force }
 {
@@ -27,7 +28,7 @@ fn make(plan: &mut Plan, line: &[u8]) -> Result<(), ServeFault>
 }
 
 // How a fault is told.
-pub(crate) fn told(fault: ServeFault) -> Answer<'static>
+fn told(fault: ServeFault) -> Answer<'static>
     ensures { result ≡ refused (serve_refusal fault) }
 {
     let Refusal { rule, place } = fault.into();
@@ -37,14 +38,15 @@ pub(crate) fn told(fault: ServeFault) -> Answer<'static>
     }
 }
 
-// The answer that a line gets.
-fn answer(plan: &mut Plan, line: &[u8]) -> Answer<'static>
-    ensures { LineAnswered plan.old.force line.now result plan.new.force }
+// How a call went, as a line at the head of `out`. The one place where the service writes an answer: the compiler then sees that there are two.
+pub(crate) fn tell(outcome: Result<(), ServeFault>, out: &mut [u8]) -> Option<usize>
+    ensures { Wrote (reply_text outcome) out.old result out.new }
 {
-    match make(plan, line) {
+    let answer = match outcome {
         Ok(()) => Answer::Taken,
         Err(fault) => told(fault),
-    }
+    };
+    write_answer(answer, out)
 }
 
 // The answer lines of a line at the head of `out`, and how many bytes they take; under 512 bytes nothing is done.
@@ -54,7 +56,7 @@ pub fn serve(plan: &mut Plan, line: &[u8], out: &mut [u8]) -> Result<usize, Serv
     if out.len() < 512 {
         return Err(ServeFault::Memory);
     }
-    let Some(count) = write_answer(answer(plan, line), out) else {
+    let Some(count) = tell(make(plan, line), out) else {
         unreachable()
     };
     Ok(count)
